@@ -1,0 +1,9 @@
+pub mod Between
+pub mod Fronts
+pub mod Gaps
+pub mod Longest
+pub mod Numbers
+pub mod Runs
+pub mod Signs
+pub mod Spelled
+pub mod Steps

@@ -1,0 +1,6 @@
+pub mod Classes
+pub mod Laws
+pub mod Lexemes
+pub mod Spellings
+pub mod Steps
+pub mod Tokens

@@ -1,0 +1,27 @@
+-- Tokens by their bytes, and the numbers of what is no token.
+use Prim.Native.Nat.{ℕ}
+use mathlib.Core.List.{List}
+use denote.Ref.{RefT, now}
+use Rattle.text.specs.declared.tokens.LexFault.{LexFault}
+use Rattle.text.specs.declared.tokens.LexFault.the-variants.{NoToken, CommentOpen, NumberTooLarge, NameTooLong}
+use Rattle.text.specs.declared.tokens.Token.{Token}
+use Rattle.text.specs.declared.tokens.Token.the-variants.{Word, Name, Number, Sign, End}
+
+-- the number that a refusal is known by
+abbrev pub faultNumber : LexFault → ℕ
+faultNumber NoToken = 11
+faultNumber CommentOpen = 12
+faultNumber NumberTooLarge = 13
+faultNumber NameTooLong = 14
+
+-- a token that holds a name as its bytes
+abbrev pub Lexeme : Type 0
+Lexeme = Token (List ℕ)
+
+-- a token whose name is a part of a text, by the bytes of that part
+abbrev pub lexeme : Token (RefT (List ℕ)) → Lexeme
+lexeme (Word k) = Word k
+lexeme (Name n) = Name (now n)
+lexeme (Number v) = Number v
+lexeme (Sign s) = Sign s
+lexeme End = End
