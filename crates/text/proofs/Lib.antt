@@ -1,4 +1,5 @@
 pub mod Between
+pub mod Counting
 pub mod Fronts
 pub mod Gaps
 pub mod Longest

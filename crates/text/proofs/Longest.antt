@@ -27,6 +27,10 @@ never-empty (inl h) = h
 never-empty (inr (inl h)) = h
 never-empty (inr (inr (s, e))) = let h = signed s .some in let k = ap length e in omega arith
 
+pub shaped-some : (w : List ℕ) → Shaped w → 0 < length w
+shaped-some [] h = absurd (never-empty h)
+shaped-some (b ∷ bs) h = omega arith
+
 head-same : (x y : ℕ) (xs ys : List ℕ) → x ∷ xs ≡ y ∷ ys → x ≡ y
 head-same x y xs ys e = cc
 

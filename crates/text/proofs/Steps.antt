@@ -14,23 +14,24 @@ use Rattle.std.specs.declared.option.Option.{Option}
 use Rattle.std.specs.declared.option.Option.the-variants.{Some, None}
 use Rattle.std.specs.declared.result.Result.{Result}
 use Rattle.std.specs.declared.result.Result.the-variants.{Ok, Err}
+use Rattle.text.specs.declared.places.Placed.{Placed}
 use Rattle.text.specs.declared.spellings.Keyword.{Keyword}
 use Rattle.text.specs.declared.tokens.Token.the-variants as token
 use Rattle.text.specs.declared.tokens.LexFault.{LexFault}
 use Rattle.text.specs.declared.tokens.LexFault.the-variants.{NoToken, CommentOpen, NumberTooLarge, NameTooLong}
 use Rattle.text.specs.Classes.{classOf}
-use Rattle.text.specs.Laws.{Between, Shaped, Longest, Shapeless, Solid, Wrong, Takes, Ends, Refuses, Next}
+use Rattle.text.specs.Laws.{Between, Shaped, Longest, Shapeless, Solid, Wrong, Takes, Ends, Refuses, Next, Shortens}
 use Rattle.text.specs.Lexemes.{letter, digit, meaning, width, wordMeans, numberMeans, magnitudeOf}
 use Rattle.text.specs.Spellings.{keywordOf, spelledSign}
 use Rattle.text.specs.Steps.{gap, at, Step, took, sized, front, stepAt, stepPast, step}
-use Rattle.text.specs.Tokens.{Lexeme}
+use Rattle.text.specs.Tokens.{Lexeme, isEnd}
 use Rattle.text.proofs.Between.{Skipped, Opened, Came, came}
 use Rattle.text.proofs.Fronts.{meaning-by}
-use Rattle.text.proofs.Longest.{widest, never-empty}
+use Rattle.text.proofs.Longest.{widest, never-empty, shaped-some}
 use Rattle.text.proofs.Runs.{tail}
 use Rattle.text.proofs.Signs.{signed}
 
--- what has the shape of a token is one, but for its size
+-- what has the shape of a token is one, and not the end, but for its size
 abbrev Oversize : LexFault → Type 0
 Oversize NoToken = ⊥
 Oversize CommentOpen = ⊥
@@ -38,19 +39,19 @@ Oversize NumberTooLarge = Unit {0}
 Oversize NameTooLong = Unit {0}
 
 abbrev Sizable : Result Lexeme LexFault → Type 0
-Sizable (Ok t) = Unit {0}
+Sizable (Ok t) = isEnd t ≡ false
 Sizable (Err f) = Oversize f
 
 word-sizable : (o : Option Keyword) (w : List ℕ) → Sizable (wordMeans o w)
-word-sizable (Some k) w = tt
+word-sizable (Some k) w = refl
 word-sizable None w = go (leb (length w) 24)
   where
     go : (t : Bool) → Sizable (cond t (Ok (token.Name w)) (Err NameTooLong))
-    go true = tt
+    go true = refl
     go false = tt
 
 number-sizable : (o : Option ℕ) → Sizable (numberMeans o)
-number-sizable (Some n) = tt
+number-sizable (Some n) = refl
 number-sizable None = tt
 
 shaped-sizable : (w : List ℕ) → Shaped w → Sizable (meaning w)
@@ -60,7 +61,7 @@ shaped-sizable (b ∷ bs) (inl (l, h)) =
 shaped-sizable (b ∷ bs) (inr (inl (d, h))) =
     let three = eqb-true (classOf b) 3 d in
     subst Sizable (sym (meaning-by b bs false true (ap (λ c. eqb c 2) three) d)) (number-sizable (magnitudeOf (b ∷ bs)))
-shaped-sizable (b ∷ bs) (inr (inr (s, e))) = subst Sizable (sym (ap meaning e ∙ signed s .means)) tt
+shaped-sizable (b ∷ bs) (inr (inr (s, e))) = subst Sizable (sym (ap meaning e ∙ signed s .means)) refl
 
 -- the end of a text
 next-end : (i p : ℕ) (text before : List ℕ) → text ≡ before ++ [] → Between before → p ≡ i + length before → Ends i text p
@@ -203,3 +204,56 @@ token-within text p n t h f =
     let w = width-within (drop p text) in
     let d = length-drop p text in
     omega arith
+
+-- what a step leaves
+pub takes-onward : (text : List ℕ) (i j : ℕ) (t : Placed Lexeme) (rest : List ℕ) → i ≤ length text → Takes i (drop i text) t j rest → (i < j) × (j ≤ length text) × (drop j text ≡ rest)
+takes-onward text i j t rest h k =
+    let place = k .place in
+    let after = k .after in
+    let some = shaped-some (k .bytes) (k .longest .shaped) in
+    let whole = ap length (k .whole) ∙ length-append (k .before) (k .bytes ++ rest) in
+    let more = length-append (k .bytes) rest in
+    let both = length-append (k .before) (k .bytes) in
+    let d = length-drop i text in
+    (omega arith, omega arith,
+    left text (k .before ++ k .bytes) rest i j (k .whole ∙ sym (append-assoc (k .before) (k .bytes) rest)) (omega arith))
+
+takes-fewer : (text : List ℕ) (i j : ℕ) (t : Placed Lexeme) (rest : List ℕ) → i ≤ length text → Takes i (drop i text) t j rest → length (drop j text) < length (drop i text)
+takes-fewer text i j t rest h k =
+    let o = takes-onward text i j t rest h k in
+    let d = length-drop i text in
+    let e = length-drop j text in
+    omega arith
+
+-- a token that is taken is not the end
+pub takes-token : (text : List ℕ) (i j : ℕ) (t : Placed Lexeme) (rest : List ℕ) → Takes i text t j rest → isEnd (t .item) ≡ false
+takes-token text i j t rest k = subst Sizable (k .means) (shaped-sizable (k .bytes) (k .longest .shaped))
+
+pub shortens : (text : List ℕ) (i : ℕ) → i ≤ length text → (a : Result (Placed Lexeme) (Placed LexFault)) (j : ℕ) → Next i (drop i text) a j → Shortens (drop i text) a (drop j text)
+shortens text i h _ j (Next.ends e) =
+    let d = length-drop i text in
+    let k = length-drop j text in
+    let p = e .place in
+    omega arith
+shortens text i h _ j (Next.takes {t} rest k) =
+    let n = takes-token (drop i text) i j t rest k in
+    rw n (takes-fewer text i j t rest h k)
+shortens text i h _ j (Next.refuses r) =
+    let d = length-drop i text in
+    let k = length-drop j text in
+    let p = r .place in
+    omega arith
+
+-- all that a step from place i promises
+pub record Stepped (text : List ℕ) (i : ℕ) (s : Step) : Type 0 where
+  pub answer : s .answer ≡ step text i .answer
+  pub after : s .after ≡ step text i .after
+  pub lawful : Next i (drop i text) (s .answer) (s .after)
+  pub shortens : Shortens (drop i text) (s .answer) (drop (s .after) text)
+
+pub stepped : (text : List ℕ) (i : ℕ) (s : Step) → i ≤ length text → step text i ≡ s → Stepped text i s
+stepped text i s h e =
+    let l = subst (λ (x : Step). Next i (drop i text) (x .answer) (x .after)) e (lawful text i) in
+    record {
+      answer = ap (λ (x : Step). x .answer) (sym e); after = ap (λ (x : Step). x .after) (sym e);
+      lawful = l; shortens = shortens text i h (s .answer) (s .after) l }

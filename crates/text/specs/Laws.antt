@@ -3,8 +3,9 @@ use mathlib.Core.Path.{_≡_}
 use mathlib.Core.Bool.{Bool, true, false}
 use mathlib.Core.List.{List, [], _∷_, _++_}
 use mathlib.Core.Logic.{_⊎_}
-use Prim.Native.Nat.{ℕ, _+_, _≤_}
+use Prim.Native.Nat.{ℕ, _+_, _≤_, _<_}
 use lib.ListN.{length}
+use Rattle.std.specs.Orderings.{When}
 use Rattle.std.specs.shelf.Lists.{All}
 use Rattle.std.specs.declared.result.Result.{Result}
 use Rattle.std.specs.declared.result.Result.the-variants.{Ok, Err}
@@ -16,7 +17,7 @@ use Rattle.text.specs.declared.tokens.Token.the-variants.{End}
 use Rattle.text.specs.Lexemes.{blank, letter, digit, part, inside, meaning}
 use Rattle.text.specs.Spellings.{spelledSign}
 use Rattle.text.specs.Steps.{at}
-use Rattle.text.specs.Tokens.{Lexeme}
+use Rattle.text.specs.Tokens.{Lexeme, isEnd}
 
 -- every byte passes a test
 abbrev pub Each : (ℕ → Bool) → List ℕ → Type 0
@@ -100,8 +101,18 @@ pub data Next (i : ℕ) (text : List ℕ) : Result (Placed Lexeme) (Placed LexFa
   takes : {t : Placed Lexeme} {j : ℕ} (rest : List ℕ) → Takes i text t j rest → Next i text (Ok t) j
   refuses : {f : Placed LexFault} → Refuses i text f → Next i text (Err f) (f .place)
 
+-- What a step leaves of a text: after a token fewer bytes than there were, after the end none, after a fault no more.
+abbrev pub Shortens : List ℕ → Result (Placed Lexeme) (Placed LexFault) → List ℕ → Type 0
+Shortens text (Ok t) rest = When (isEnd (t .item)) (length rest ≡ 0) (length rest < length text)
+Shortens text (Err f) rest = length rest ≤ length text
+
 -- A text from place i on is these tokens one after another, and then it ends, or goes on with what is no token.
 pub data Lexes : ℕ → List ℕ → List (Placed Lexeme) → Result ℕ (Placed LexFault) → Type 0 where
   ends : {i p : ℕ} {text : List ℕ} → Ends i text p → Lexes i text [] (Ok p)
   refuses : {i : ℕ} {text : List ℕ} {f : Placed LexFault} → Refuses i text f → Lexes i text [] (Err f)
   takes : {i : ℕ} {text : List ℕ} {t : Placed Lexeme} {ts : List (Placed Lexeme)} {v : Result ℕ (Placed LexFault)} (j : ℕ) (rest : List ℕ) → Takes i text t j rest → Lexes j rest ts v → Lexes i text (t ∷ ts) v
+
+-- how many tokens a text has, or what is no token in it
+abbrev pub Counted : List ℕ → Result ℕ (Placed LexFault) → Type 0
+Counted text (Ok n) = (ts : List (Placed Lexeme)) × Lexes 0 text ts (Ok (length text)) × (length ts ≡ n)
+Counted text (Err f) = (ts : List (Placed Lexeme)) × Lexes 0 text ts (Err f)

@@ -1,5 +1,6 @@
 -- Tokens by their bytes, and the numbers of what is no token.
 use Prim.Native.Nat.{ℕ}
+use mathlib.Core.Bool.{Bool, true, false}
 use mathlib.Core.List.{List}
 use denote.Ref.{RefT, now}
 use Rattle.text.specs.declared.tokens.LexFault.{LexFault}
@@ -13,6 +14,14 @@ faultNumber NoToken = 11
 faultNumber CommentOpen = 12
 faultNumber NumberTooLarge = 13
 faultNumber NameTooLong = 14
+
+-- the end is no token of the text itself
+abbrev pub isEnd : {N : Type 0} → Token N → Bool
+isEnd (Word k) = false
+isEnd (Name n) = false
+isEnd (Number v) = false
+isEnd (Sign s) = false
+isEnd End = true
 
 -- a token that holds a name as its bytes
 abbrev pub Lexeme : Type 0

@@ -6,6 +6,8 @@ ghost use denote.Ref.{now as held};
 ghost use lib.ListN.{length, getD, take, drop};
 ghost use Rattle.std.specs.declared.option.Option.the-variants.{None};
 ghost use Rattle.text.specs.Spellings.{keywordOf, signAt};
+ghost use Rattle.text.specs.Laws.{Next, Shortens, Counted};
+ghost use Rattle.text.specs.Lexings.{lexed, counted};
 ghost use Rattle.text.specs.Lexemes.{blank, digit, part, inside, runOf, magnitudeOf, wordMeans, numberMeans};
 ghost use Rattle.text.specs.Steps.{gap, step, answered, front, meant, taken};
 use crate::classes::BLANK;
@@ -200,6 +202,8 @@ impl<'a> Lexer<'a> {
         ensures answer { λ r. ⌜ answered r ≡ step (now (now (self .entry) .source)) (now (self .entry) .place) .answer ⌝ }
         ensures place { λ _. ⌜ now (self .exit) .place ≡ step (now (now (self .entry) .source)) (now (self .entry) .place) .after ⌝ }
         ensures source { λ _. ⌜ now (self .exit) .source ≡ now (self .entry) .source ⌝ }
+        ensures lawful { λ r. ⌜ Next (now (self .entry) .place) (drop (now (self .entry) .place) (now (now (self .entry) .source))) (answered r) (now (self .exit) .place) ⌝ }
+        ensures shortens { λ r. ⌜ Shortens (drop (now (self .entry) .place) (now (now (self .entry) .source))) (answered r) (drop (now (self .exit) .place) (now (now (self .entry) .source))) ⌝ }
     {
         let place = match gap_end(self.source, self.place) {
             Ok(place) => place,
@@ -219,5 +223,21 @@ impl<'a> Lexer<'a> {
             }
             Err(item) => Err(Placed { item, place }),
         }
+    }
+}
+
+/// How many tokens a text has.
+pub fn count_tokens(source: &[u8]) -> Result<usize, Placed<LexFault>>
+    ensures answer { λ r. ⌜ r ≡ counted (lexed (now (source .entry))) ⌝ }
+    ensures lawful { λ r. ⌜ Counted (now (source .entry)) r ⌝ }
+{
+    let mut lexer = Lexer::new(source);
+    let mut count = 0;
+    loop {
+        let token = lexer.next_token()?;
+        if let Token::End = token.item {
+            return Ok(count);
+        }
+        count += 1;
     }
 }
