@@ -24,6 +24,9 @@ use crate::spellings::sign_of;
 use crate::tokens::LexFault;
 use crate::tokens::Token;
 
+/// The most bytes that a text may have.
+pub const TEXT_LIMIT: usize = 16_384;
+
 /// The largest magnitude that a number may have.
 const LARGEST: u64 = 2_147_483_648;
 
