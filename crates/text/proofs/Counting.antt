@@ -15,10 +15,11 @@ use Rattle.text.specs.declared.places.Placed.{Placed}
 use Rattle.text.specs.declared.tokens.LexFault.{LexFault}
 use Rattle.text.specs.declared.tokens.Token.{Token}
 use Rattle.text.specs.declared.tokens.Token.the-variants as token
-use Rattle.text.specs.Laws.{Takes, Ends, Refuses, Next, Lexes, Counted, Shortens}
+use Rattle.text.specs.Laws.{Takes, Ends, Refuses, Next, Lexes, Apart, Counted, Shortens}
 use Rattle.text.specs.Lexings.{Lexing, only, before, onward, lexedFrom, lexed, counting, counted}
 use Rattle.text.specs.Steps.{at, step}
 use Rattle.text.specs.Tokens.{Lexeme, lexeme, isEnd}
+use Rattle.text.proofs.Only.{lexes-only}
 use Rattle.text.proofs.Steps.{lawful, takes-onward, takes-token}
 
 -- a count that goes on
@@ -123,11 +124,14 @@ pub lexes : (text : List ℕ) → Lexes 0 text (lexed text .tokens) (lexed text 
 unfolding lexed
 lexes text = lexes-from (suc (length text)) text 0 (omega arith) (omega arith)
 
+apart : (text : List ℕ) (v : Result ℕ (Placed LexFault)) → Lexes 0 text (lexed text .tokens) v → Apart text (lexed text .tokens) v
+apart text v l = record { lexes = l; only = λ us w m. lexes-only 0 text (lexed text .tokens) us v w l m }
+
 pub counted-lawful : (text : List ℕ) → Counted text (counted (lexed text))
 counted-lawful text = go (lexed text .verdict) (lexes text)
   where
     go : (v : Result ℕ (Placed LexFault)) → Lexes 0 text (lexed text .tokens) v → Counted text (counted (record { tokens = lexed text .tokens; verdict = v }))
     go (Ok p) l =
         let e = lexes-end 0 text (lexed text .tokens) p l ∙ zero-add (length text) in
-        (lexed text .tokens, subst (λ q. Lexes 0 text (lexed text .tokens) (Ok q)) e l, refl)
-    go (Err f) l = (lexed text .tokens, l)
+        (lexed text .tokens, apart text (Ok (length text)) (subst (λ q. Lexes 0 text (lexed text .tokens) (Ok q)) e l), refl)
+    go (Err f) l = (lexed text .tokens, apart text (Err f) l)

@@ -4,7 +4,9 @@ pub mod Fronts
 pub mod Gaps
 pub mod Longest
 pub mod Numbers
+pub mod Only
 pub mod Runs
 pub mod Signs
 pub mod Spelled
+pub mod Stepped
 pub mod Steps

@@ -35,7 +35,7 @@ head-same : (x y : ℕ) (xs ys : List ℕ) → x ∷ xs ≡ y ∷ ys → x ≡ y
 head-same x y xs ys e = cc
 
 -- the first byte of a sign
-sign-head : (x : ℕ) (xs : List ℕ) (s : Sign) → x ∷ xs ≡ spelledSign s → classOf x ≡ 4
+pub sign-head : (x : ℕ) (xs : List ℕ) (s : Sign) → x ∷ xs ≡ spelledSign s → classOf x ≡ 4
 sign-head x xs s e = ap (λ l. classOf (getD l 0 0)) e ∙ signed s .first
 
 -- where the text begins with a letter, its fronts are words

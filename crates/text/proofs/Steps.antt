@@ -85,7 +85,7 @@ next-shaped i p n text before rest e b k w l (Err NumberTooLarge) m z =
 next-shaped i p n text before rest e b k w l (Err NameTooLong) m z =
     Next.refuses (record { before = before; rest = rest; whole = e; between = b; wrong = (take n rest, l, m); place = k })
 
-nothing-means : meaning [] ≡ Err NoToken
+pub nothing-means : meaning [] ≡ Err NoToken
 unfolding meaning
 nothing-means = refl
 
@@ -159,7 +159,7 @@ unfolding step
 step-end text i p e h = ap (stepPast text) e ∙ ap (stepAt p) (drop-all p text h)
 
 -- or the front of what is left
-step-solid : (p : ℕ) (rest : List ℕ) → 0 < length rest → stepAt p rest ≡ took p (width rest) (meaning (take (width rest) rest))
+pub step-solid : (p : ℕ) (rest : List ℕ) → 0 < length rest → stepAt p rest ≡ took p (width rest) (meaning (take (width rest) rest))
 step-solid p [] h = absurd (omega arith)
 step-solid p (b ∷ bs) h = refl
 
@@ -243,17 +243,3 @@ shortens text i h _ j (Next.refuses r) =
     let k = length-drop j text in
     let p = r .place in
     omega arith
-
--- all that a step from place i promises
-pub record Stepped (text : List ℕ) (i : ℕ) (s : Step) : Type 0 where
-  pub answer : s .answer ≡ step text i .answer
-  pub after : s .after ≡ step text i .after
-  pub lawful : Next i (drop i text) (s .answer) (s .after)
-  pub shortens : Shortens (drop i text) (s .answer) (drop (s .after) text)
-
-pub stepped : (text : List ℕ) (i : ℕ) (s : Step) → i ≤ length text → step text i ≡ s → Stepped text i s
-stepped text i s h e =
-    let l = subst (λ (x : Step). Next i (drop i text) (x .answer) (x .after)) e (lawful text i) in
-    record {
-      answer = ap (λ (x : Step). x .answer) (sym e); after = ap (λ (x : Step). x .after) (sym e);
-      lawful = l; shortens = shortens text i h (s .answer) (s .after) l }

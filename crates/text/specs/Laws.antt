@@ -101,6 +101,10 @@ pub data Next (i : ℕ) (text : List ℕ) : Result (Placed Lexeme) (Placed LexFa
   takes : {t : Placed Lexeme} {j : ℕ} (rest : List ℕ) → Takes i text t j rest → Next i text (Ok t) j
   refuses : {f : Placed LexFault} → Refuses i text f → Next i text (Err f) (f .place)
 
+-- and nothing else may
+abbrev pub NextOnly : ℕ → List ℕ → Result (Placed Lexeme) (Placed LexFault) → ℕ → Type 0
+NextOnly i text a j = (b : Result (Placed Lexeme) (Placed LexFault)) (k : ℕ) → Next i text b k → (b ≡ a) × (k ≡ j)
+
 -- What a step leaves of a text: after a token fewer bytes than there were, after the end none, after a fault no more.
 abbrev pub Shortens : List ℕ → Result (Placed Lexeme) (Placed LexFault) → List ℕ → Type 0
 Shortens text (Ok t) rest = When (isEnd (t .item)) (length rest ≡ 0) (length rest < length text)
@@ -112,7 +116,12 @@ pub data Lexes : ℕ → List ℕ → List (Placed Lexeme) → Result ℕ (Place
   refuses : {i : ℕ} {text : List ℕ} {f : Placed LexFault} → Refuses i text f → Lexes i text [] (Err f)
   takes : {i : ℕ} {text : List ℕ} {t : Placed Lexeme} {ts : List (Placed Lexeme)} {v : Result ℕ (Placed LexFault)} (j : ℕ) (rest : List ℕ) → Takes i text t j rest → Lexes j rest ts v → Lexes i text (t ∷ ts) v
 
+-- a whole text is these tokens, and can be taken apart in no other way
+pub record Apart (text : List ℕ) (ts : List (Placed Lexeme)) (v : Result ℕ (Placed LexFault)) : Type 0 where
+  pub lexes : Lexes 0 text ts v
+  pub only : (us : List (Placed Lexeme)) (w : Result ℕ (Placed LexFault)) → Lexes 0 text us w → (us ≡ ts) × (w ≡ v)
+
 -- how many tokens a text has, or what is no token in it
 abbrev pub Counted : List ℕ → Result ℕ (Placed LexFault) → Type 0
-Counted text (Ok n) = (ts : List (Placed Lexeme)) × Lexes 0 text ts (Ok (length text)) × (length ts ≡ n)
-Counted text (Err f) = (ts : List (Placed Lexeme)) × Lexes 0 text ts (Err f)
+Counted text (Ok n) = (ts : List (Placed Lexeme)) × Apart text ts (Ok (length text)) × (length ts ≡ n)
+Counted text (Err f) = (ts : List (Placed Lexeme)) × Apart text ts (Err f)

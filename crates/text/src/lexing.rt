@@ -6,7 +6,7 @@ ghost use denote.Ref.{now as held};
 ghost use lib.ListN.{length, getD, take, drop};
 ghost use Rattle.std.specs.declared.option.Option.the-variants.{None};
 ghost use Rattle.text.specs.Spellings.{keywordOf, signAt};
-ghost use Rattle.text.specs.Laws.{Next, Shortens, Counted};
+ghost use Rattle.text.specs.Laws.{Next, NextOnly, Shortens, Counted};
 ghost use Rattle.text.specs.Lexings.{lexed, counted};
 ghost use Rattle.text.specs.Lexemes.{blank, digit, part, inside, runOf, magnitudeOf, wordMeans, numberMeans};
 ghost use Rattle.text.specs.Steps.{gap, step, answered, front, meant, taken};
@@ -206,6 +206,7 @@ impl<'a> Lexer<'a> {
         ensures place { λ _. ⌜ now (self .exit) .place ≡ step (now (now (self .entry) .source)) (now (self .entry) .place) .after ⌝ }
         ensures source { λ _. ⌜ now (self .exit) .source ≡ now (self .entry) .source ⌝ }
         ensures lawful { λ r. ⌜ Next (now (self .entry) .place) (drop (now (self .entry) .place) (now (now (self .entry) .source))) (answered r) (now (self .exit) .place) ⌝ }
+        ensures only { λ r. ⌜ NextOnly (now (self .entry) .place) (drop (now (self .entry) .place) (now (now (self .entry) .source))) (answered r) (now (self .exit) .place) ⌝ }
         ensures shortens { λ r. ⌜ Shortens (drop (now (self .entry) .place) (now (now (self .entry) .source))) (answered r) (drop (now (self .exit) .place) (now (now (self .entry) .source))) ⌝ }
     {
         let place = match gap_end(self.source, self.place) {
