@@ -1,4 +1,8 @@
 //! The account that the bench gives of a script.
+//!
+//! [`screen`] answers, for every script, what the definitions say: how many tokens it has, or why and where it is refused.
+//! [`report`] gives the line that the bench prints, byte for byte. Screening takes one pass over the script and no memory;
+//! the line is a `String`, since the bench is no part of the craft.
 ghost use mathlib.Core.Path.{_≡_};
 ghost use Rattle.std.specs.Of.String.{string-bytes};
 ghost use Rattle.std.specs.Vec.{made};
@@ -43,11 +47,17 @@ pub fn screen(script: &[u8]) -> Account
     ensures lawful { λ r. ⌜ Screened (now (script .entry)) r ⌝ }
 {
     if script.len() > TEXT_LIMIT {
-        return Account::Refused(Placed { item: Refusal::TextTooLong, place: 0 });
+        return Account::Refused(Placed {
+            item: Refusal::TextTooLong,
+            place: 0,
+        });
     }
     match count_tokens(script) {
         Ok(count) => Account::Tokens(count),
-        Err(fault) => Account::Refused(Placed { item: Refusal::Lexical(fault.item), place: fault.place }),
+        Err(fault) => Account::Refused(Placed {
+            item: Refusal::Lexical(fault.item),
+            place: fault.place,
+        }),
     }
 }
 
@@ -62,5 +72,33 @@ pub fn report(heap: Global, script: &[u8]) -> Result<String, AllocError>
             let place = refusal.place;
             format!(heap, "refused {number} {place}\n")
         }
+    }
+}
+
+#[cfg(test)]
+mod tests {
+    use super::*;
+    use std::test::*;
+
+    fn line_of(rt: &LibcRuntime, script: &[u8], line: &str) -> Result<(), Fail> {
+        let found = report(rt.alloc(), script)?;
+        check_eq(found.as_str(), line)
+    }
+
+    #[test]
+    fn lines(rt: LibcRuntime) -> Result<(), Fail> {
+        line_of(&rt, b"", "tokens 0\n")?;
+        line_of(&rt, b"a := 1;", "tokens 4\n")?;
+        line_of(&rt, b"a $", "refused 11 2\n")?;
+        line_of(&rt, b"a { b", "refused 12 2\n")?;
+        line_of(&rt, b"x 2147483649", "refused 13 2\n")?;
+        line_of(&rt, b"abcdefghijklmnopqrstuvwxy", "refused 14 0\n")
+    }
+
+    #[test]
+    fn longest_text(rt: LibcRuntime) -> Result<(), Fail> {
+        line_of(&rt, &[b';'; 16_384], "tokens 16384\n")?;
+        line_of(&rt, &[b';'; 16_385], "refused 10 0\n")?;
+        line_of(&rt, &[b'$'; 16_385], "refused 10 0\n")
     }
 }

@@ -1,6 +1,5 @@
 //! The parts of a case file: a line `WORD NUMBER`, or such a line and then so many bytes and a line feed.
-ghost use mathlib.Core.Path.{_≡_};
-ghost use mathlib.Core.List.{List, _∷_, _++_};
+ghost use mathlib.Core.List.{List};
 ghost use Prim.Native.Nat.{ℕ};
 ghost use Rattle.std.specs.Options.{Cases as BySome};
 ghost use Rattle.cases.specs.CaseFiles.{Lined, Announced};

@@ -10,7 +10,13 @@ use text::tokens::LexFault;
 use text::tokens::Token;
 
 /// One line: the place, the kind with a blank where bytes follow, and the bytes.
-fn entry(heap: Global, out: &mut Vec<u8>, place: usize, kind: &str, bytes: &[u8]) -> Result<(), AllocError> {
+fn entry(
+    heap: Global,
+    out: &mut Vec<u8>,
+    place: usize,
+    kind: &str,
+    bytes: &[u8],
+) -> Result<(), AllocError> {
     let head = format!(heap, "{place} {kind}")?;
     out.extend_from_slice(head.as_bytes())?;
     out.extend_from_slice(bytes)?;
@@ -18,7 +24,11 @@ fn entry(heap: Global, out: &mut Vec<u8>, place: usize, kind: &str, bytes: &[u8]
     Ok(())
 }
 
-fn list_token(heap: Global, out: &mut Vec<u8>, token: Placed<Token<&[u8]>>) -> Result<(), AllocError> {
+fn list_token(
+    heap: Global,
+    out: &mut Vec<u8>,
+    token: Placed<Token<&[u8]>>,
+) -> Result<(), AllocError> {
     match token.item {
         Token::Word(keyword) => entry(heap, out, token.place, "word ", keyword.spelling()),
         Token::Name(name) => entry(heap, out, token.place, "name ", name),

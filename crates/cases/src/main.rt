@@ -23,7 +23,10 @@ fn agrees(rt: &LibcRuntime, script: &[u8], tokens: &[u8]) -> Result<bool, AnyErr
 
 /// Runs the cases of a file, each of which takes a byte at least.
 fn run(rt: &LibcRuntime, file: &[u8]) -> Result<(), AnyError> {
-    let mut tally = Tally { cases: 0, differ: 0 };
+    let mut tally = Tally {
+        cases: 0,
+        differ: 0,
+    };
     let mut rest = file;
     for _ in 0..file.len() {
         let Some((case, after)) = number(rest, b"case ") else {

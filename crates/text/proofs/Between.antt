@@ -3,7 +3,7 @@ use mathlib.Core.Path.{_≡_, refl, sym, ap, subst, _∙_}
 use mathlib.Core.Bool.{Bool, true, false, cond, not}
 use mathlib.Core.List.{List, [], _∷_, _++_}
 use mathlib.Core.Logic.{_⊎_, inl, inr}
-use Prim.Native.Nat.{ℕ, suc, _+_, _<_, _≤_}
+use Prim.Native.Nat.{ℕ, suc, _+_}
 use native.Mathlib.Nat.{add-zero}
 use native.Mathlib.Omega.{arith}
 use lib.Dec.{eqb}
@@ -65,16 +65,24 @@ farther i p c before e = let n = length-append c (125 ∷ before) in omega arith
 comment-on : (i : ℕ) (bs : List ℕ) (r : Result ℕ ℕ) → Came (Some i) (i + 1) bs r → Came None i (123 ∷ bs) r
 comment-on i bs (Ok p) (c, more, e, h, s) =
     record {
-      before = 123 ∷ (c ++ (125 ∷ s .before)); rest = s .rest;
+      before = 123 ∷ (c ++ (125 ∷ s .before));
+      rest = s .rest;
       whole = ap (λ l. 123 ∷ l) e ∙ around c more (s .before) (s .rest) (s .whole);
-      between = Between.comment c h (s .between); place = farther i p c (s .before) (s .place); fresh = s .fresh }
+      between = Between.comment c h (s .between);
+      place = farther i p c (s .before) (s .place);
+      fresh = s .fresh;
+    }
 comment-on i bs (Err p) (inl (e, h)) =
     record { before = []; rest = 123 ∷ bs; whole = refl; between = Between.none; place = e ∙ sym (add-zero i); unclosed = (bs, refl, h) }
 comment-on i bs (Err p) (inr (c, more, e, h, s)) =
     record {
-      before = 123 ∷ (c ++ (125 ∷ s .before)); rest = s .rest;
+      before = 123 ∷ (c ++ (125 ∷ s .before));
+      rest = s .rest;
       whole = ap (λ l. 123 ∷ l) e ∙ around c more (s .before) (s .rest) (s .whole);
-      between = Between.comment c h (s .between); place = farther i p c (s .before) (s .place); unclosed = s .unclosed }
+      between = Between.comment c h (s .between);
+      place = farther i p c (s .before) (s .place);
+      unclosed = s .unclosed;
+    }
 
 -- the end of a comment before
 shut-on : (i start : ℕ) (bs : List ℕ) (r : Result ℕ ℕ) → Came None (i + 1) bs r → Came (Some start) i (125 ∷ bs) r

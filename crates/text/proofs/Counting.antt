@@ -1,7 +1,7 @@
 -- A whole text, step by step: it is its tokens one after another.
 use mathlib.Core.Path.{_≡_, refl, sym, ap, subst, _∙_}
-use mathlib.Core.Bool.{Bool, true, false, cond}
-use mathlib.Core.List.{List, [], _∷_, _++_}
+use mathlib.Core.Bool.{true, false, cond}
+use mathlib.Core.List.{List, _++_}
 use Prim.Native.Nat.{ℕ, zero, suc, _+_, _-_, _<_, _≤_}
 use native.Mathlib.Nat.{zero-add, add-zero, sub-zero}
 use native.Mathlib.Omega.{arith}
@@ -9,16 +9,16 @@ use denote.Ref.{RefT}
 use lib.ListN.{length, drop}
 use Rattle.std.proofs.shelf.Lists.{length-drop, length-append}
 use Rattle.std.proofs.shelf.Ways.{when-false}
-use Rattle.std.specs.declared.result.Result.{Result}
 use Rattle.std.specs.declared.result.Result.the-variants.{Ok, Err}
 use Rattle.text.specs.declared.places.Placed.{Placed}
 use Rattle.text.specs.declared.tokens.LexFault.{LexFault}
 use Rattle.text.specs.declared.tokens.Token.{Token}
 use Rattle.text.specs.declared.tokens.Token.the-variants as token
-use Rattle.text.specs.Laws.{Takes, Ends, Refuses, Next, Lexes, Apart, Counted, Shortens}
+use Rattle.text.specs.Laws.{Next, Lexes, Apart, Counted, Shortens}
 use Rattle.text.specs.Lexings.{Lexing, only, before, onward, lexedFrom, lexed, counting, counted}
 use Rattle.text.specs.Steps.{at, step}
-use Rattle.text.specs.Tokens.{Lexeme, lexeme, isEnd}
+use Rattle.text.specs.Tokens.{Lexeme, lexeme, isEnd, Answer, Verdict}
+use Rattle.text.proofs.Longest.{shaped-some}
 use Rattle.text.proofs.Only.{lexes-only}
 use Rattle.text.proofs.Steps.{lawful, takes-onward, takes-token}
 
@@ -26,19 +26,19 @@ use Rattle.text.proofs.Steps.{lawful, takes-onward, takes-token}
 counting-more : (n : ℕ) (t : Placed Lexeme) (l : Lexing) → counting n (before t l) ≡ counting (n + 1) l
 counting-more n t l = go (l .verdict)
   where
-    go : (v : Result ℕ (Placed LexFault)) → counting n (before t (record { tokens = l .tokens; verdict = v })) ≡ counting (n + 1) (record { tokens = l .tokens; verdict = v })
+    go : (v : Verdict) → counting n (before t (record { tokens = l .tokens; verdict = v })) ≡ counting (n + 1) (record { tokens = l .tokens; verdict = v })
     go (Ok p) = let k : n + suc (length (l .tokens)) ≡ n + 1 + length (l .tokens) = omega arith in ap Ok k
     go (Err f) = refl
 
 counting-none : (l : Lexing) → counting 0 l ≡ counted l
 counting-none l = go (l .verdict)
   where
-    go : (v : Result ℕ (Placed LexFault)) → counting 0 (record { tokens = l .tokens; verdict = v }) ≡ counted (record { tokens = l .tokens; verdict = v })
+    go : (v : Verdict) → counting 0 (record { tokens = l .tokens; verdict = v }) ≡ counted (record { tokens = l .tokens; verdict = v })
     go (Ok p) = ap Ok (zero-add (length (l .tokens)))
     go (Err f) = refl
 
 -- what is to be counted from place i on, after n tokens
-abbrev pub toCount : List ℕ → ℕ → ℕ → Result ℕ (Placed LexFault)
+abbrev pub toCount : List ℕ → ℕ → ℕ → Verdict
 toCount text n i = counting n (lexedFrom (suc (length text) - n) text i)
 
 fuel : (text : List ℕ) (n i : ℕ) → n ≤ length text → toCount text n i ≡ counting n (onward (step text i .answer) (lexedFrom (suc (length text) - (n + 1)) text (step text i .after)))
@@ -104,7 +104,7 @@ abbrev LexesBy : ℕ → List ℕ → Lexing → Type 0
 LexesBy i text l = Lexes i text (l .tokens) (l .verdict)
 
 -- by what comes next, where the rest is known
-lexes-on : (text : List ℕ) (i j m : ℕ) (a : Result (Placed Lexeme) (Placed LexFault)) → i ≤ length text → length text < i + suc m → (j ≤ length text → length text < j + m → LexesBy j (drop j text) (lexedFrom m text j)) → Next i (drop i text) a j → LexesBy i (drop i text) (onward a (lexedFrom m text j))
+lexes-on : (text : List ℕ) (i j m : ℕ) (a : Answer) → i ≤ length text → length text < i + suc m → (j ≤ length text → length text < j + m → LexesBy j (drop j text) (lexedFrom m text j)) → Next i (drop i text) a j → LexesBy i (drop i text) (onward a (lexedFrom m text j))
 lexes-on text i j m _ h f ih (Next.ends e) = Lexes.ends e
 lexes-on text i j m _ h f ih (Next.refuses r) = Lexes.refuses r
 lexes-on text i j m _ h f ih (Next.takes {t} rest k) =
@@ -124,13 +124,24 @@ pub lexes : (text : List ℕ) → Lexes 0 text (lexed text .tokens) (lexed text 
 unfolding lexed
 lexes text = lexes-from (suc (length text)) text 0 (omega arith) (omega arith)
 
-apart : (text : List ℕ) (v : Result ℕ (Placed LexFault)) → Lexes 0 text (lexed text .tokens) v → Apart text (lexed text .tokens) v
-apart text v l = record { lexes = l; only = λ us w m. lexes-only 0 text (lexed text .tokens) us v w l m }
+-- each token takes a byte at least
+lexes-few : (i : ℕ) (text : List ℕ) (ts : List (Placed Lexeme)) (v : Verdict) → Lexes i text ts v → length ts ≤ length text
+lexes-few i text _ _ (Lexes.ends e) = omega arith
+lexes-few i text _ _ (Lexes.refuses r) = omega arith
+lexes-few i text _ v (Lexes.takes {ts = ts} j rest k l) =
+    let h = lexes-few j rest ts v l in
+    let whole = ap length (k .whole) ∙ length-append (k .before) (k .bytes ++ rest) in
+    let more = length-append (k .bytes) rest in
+    let some = shaped-some (k .bytes) (k .longest .shaped) in
+    omega arith
+
+apart : (text : List ℕ) (v : Verdict) → Lexes 0 text (lexed text .tokens) v → Apart text (lexed text .tokens) v
+apart text v l = record { lexes = l; few = lexes-few 0 text (lexed text .tokens) v l; only = λ us w m. lexes-only 0 text (lexed text .tokens) us v w l m }
 
 pub counted-lawful : (text : List ℕ) → Counted text (counted (lexed text))
 counted-lawful text = go (lexed text .verdict) (lexes text)
   where
-    go : (v : Result ℕ (Placed LexFault)) → Lexes 0 text (lexed text .tokens) v → Counted text (counted (record { tokens = lexed text .tokens; verdict = v }))
+    go : (v : Verdict) → Lexes 0 text (lexed text .tokens) v → Counted text (counted (record { tokens = lexed text .tokens; verdict = v }))
     go (Ok p) l =
         let e = lexes-end 0 text (lexed text .tokens) p l ∙ zero-add (length text) in
         (lexed text .tokens, apart text (Ok (length text)) (subst (λ q. Lexes 0 text (lexed text .tokens) (Ok q)) e l), refl)

@@ -1,13 +1,12 @@
 -- Blanks and comments between tokens: how far they go.
-use mathlib.Core.Path.{_≡_, refl, sym, ap, subst, _∙_}
+use mathlib.Core.Path.{_≡_, refl, sym, ap, _∙_}
 use mathlib.Core.Bool.{Bool, true, false, cond, not}
 use mathlib.Core.List.{List, [], _∷_}
-use Prim.Native.Nat.{ℕ, zero, suc, _+_, _<_, _≤_}
+use Prim.Native.Nat.{ℕ, suc, _+_, _<_, _≤_}
 use native.Mathlib.Nat.{add-zero}
 use native.Mathlib.Omega.{arith}
 use lib.Dec.{eqb}
 use lib.ListN.{length, getD, drop}
-use Rattle.std.specs.declared.option.Option.{Option}
 use Rattle.std.specs.declared.option.Option.the-variants.{Some, None}
 use Rattle.std.specs.declared.result.Result.{Result}
 use Rattle.std.specs.declared.result.Result.the-variants.{Ok, Err}
@@ -24,6 +23,7 @@ gap-blanks (b ∷ bs) i = go (blank b) refl (gap-blanks bs (i + 1))
   where
     later : i + 1 + runOf blank bs ≡ i + suc (runOf blank bs)
     later = omega arith
+
     go : (t : Bool) → blank b ≡ t → gap None bs (i + 1) ≡ gap None (drop (runOf blank bs) bs) (i + 1 + runOf blank bs) → gap None (b ∷ bs) i ≡ gap None (drop (cond t (suc (runOf blank bs)) 0) (b ∷ bs)) (i + cond t (suc (runOf blank bs)) 0)
     go true e ih = rw e (ih ∙ ap (gap None (drop (runOf blank bs) bs)) later)
     go false e ih = ap (gap None (b ∷ bs)) (sym (add-zero i))
@@ -44,6 +44,7 @@ gap-shut start (b ∷ bs) i h = go (eqb b 125) h (gap-shut start bs (i + 1))
   where
     later : i + 1 + suc (runOf inside bs) ≡ i + suc (suc (runOf inside bs))
     later = omega arith
+
     go : (t : Bool) → cond (not t) (suc (runOf inside bs)) 0 < suc (length bs) → (runOf inside bs < length bs → gap (Some start) bs (i + 1) ≡ gap None (drop (suc (runOf inside bs)) bs) (i + 1 + suc (runOf inside bs))) → cond t (gap None bs (i + 1)) (gap (Some start) bs (i + 1)) ≡ gap None (drop (suc (cond (not t) (suc (runOf inside bs)) 0)) (b ∷ bs)) (i + suc (cond (not t) (suc (runOf inside bs)) 0))
     go true h ih = refl
     go false h ih = ih (omega arith) ∙ ap (gap None (drop (suc (runOf inside bs)) bs)) later

@@ -1,11 +1,10 @@
 -- The token at the front of a text is its longest front of a token's shape.
 use mathlib.Core.Path.{_≡_, refl, sym, ap, subst, _∙_}
-use mathlib.Core.Bool.{Bool, true, false, cond, _||_}
+use mathlib.Core.Bool.{Bool, true, false}
 use mathlib.Core.List.{List, [], _∷_, _++_}
-use mathlib.Core.Logic.{_⊎_, inl, inr}
-use Prim.Native.Nat.{ℕ, suc, _+_, _<_, _≤_}
+use mathlib.Core.Logic.{inl, inr}
+use Prim.Native.Nat.{ℕ, suc, _<_, _≤_}
 use native.Mathlib.Omega.{arith}
-use lib.Dec.{eqb}
 use lib.ListN.{length, getD, take, drop}
 use Rattle.std.proofs.shelf.Lists.{take-append-drop, length-take-le, length-take}
 use Rattle.std.proofs.shelf.Tests.{eqb-true, or-left, both-ways}
@@ -90,8 +89,11 @@ longest-by : (text : List ℕ) (n : ℕ) → n ≤ length text → Shaped (take 
 longest-by text n h s most =
     let k = length-take-le n text h in
     record {
-      shaped = s; rest = drop n text; front = sym (take-append-drop n text);
-      longest = λ v more t e. let m = most v more t e in omega arith }
+      shaped = s;
+      rest = drop n text;
+      front = sym (take-append-drop n text);
+      longest = λ v more t e. let m = most v more t e in omega arith;
+    }
 
 -- what the width of a token at the front says
 abbrev Widest : List ℕ → ℕ → Type 0
@@ -101,31 +103,40 @@ run-widest : (p : ℕ → Bool) (b : ℕ) (bs : List ℕ) (n : ℕ) → n ≡ ru
 run-widest p b bs n e t shape most =
     let one : n ≡ suc (runOf p bs) = e ∙ run-some p b bs t in
     let within = run-within p (b ∷ bs) in
-    let w : n ≤ length (b ∷ bs) = omega arith in
-    (w,
-    ((λ z. absurd (omega arith)),
-    (λ z. longest-by (b ∷ bs) n w
-        (subst (λ k. Shaped (take k (b ∷ bs))) (sym one) (shape (run-each p bs)))
-        (λ v more s k. let m = most v more s k in omega arith))))
+    let w : n ≤ length (b ∷ bs) = omega arith in (
+      w,
+      (
+        (λ z. absurd (omega arith)),
+        (λ z. longest-by (b ∷ bs) n w
+            (subst (λ k. Shaped (take k (b ∷ bs))) (sym one) (shape (run-each p bs)))
+            (λ v more s k. let m = most v more s k in omega arith)),
+      ),
+    )
 
 sign-widest : (b : ℕ) (bs : List ℕ) (n : ℕ) (o : Option Sign) → letter b ≡ false → digit b ≡ false → signAt (b ∷ bs) ≡ o → n ≡ signWidth o → Widest (b ∷ bs) n
-sign-widest b bs n None l d e k =
-    (omega arith,
-    ((λ z v more s h. let (r, f, m) = signs-most b bs v more l d s h in none-some r (sym e ∙ f)),
-    (λ z. absurd (omega arith))))
+sign-widest b bs n None l d e k = (
+  omega arith,
+  (
+    (λ z v more s h. let (r, f, m) = signs-most b bs v more l d s h in none-some r (sym e ∙ f)),
+    (λ z. absurd (omega arith)),
+  ),
+)
 sign-widest b bs n (Some s) l d e k =
     let size = ap length (sign-front (b ∷ bs) s e) in
     let cut = length-take (length (spelledSign s)) (b ∷ bs) in
     let some = signed s .some in
-    let w : n ≤ length (b ∷ bs) = omega arith in
-    (w,
-    ((λ z. absurd (omega arith)),
-    (λ z. longest-by (b ∷ bs) n w
-        (inr (inr (s, ap (λ j. take j (b ∷ bs)) k ∙ sign-front (b ∷ bs) s e)))
-        (λ v more t h.
+    let w : n ≤ length (b ∷ bs) = omega arith in (
+      w,
+      (
+        (λ z. absurd (omega arith)),
+        (λ z. longest-by (b ∷ bs) n w
+            (inr (inr (s, ap (λ j. take j (b ∷ bs)) k ∙ sign-front (b ∷ bs) s e)))
+            (λ v more t h.
             let (r, f, m) = signs-most b bs v more l d t h in
             let same = ap (λ q. length (spelledSign q)) (some-same r s (sym f ∙ e)) in
-            omega arith))))
+            omega arith)),
+      ),
+    )
 
 pub widest : (b : ℕ) (bs : List ℕ) → Widest (b ∷ bs) (width (b ∷ bs))
 widest b bs = go (letter b) refl (digit b) refl

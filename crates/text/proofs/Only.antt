@@ -2,16 +2,15 @@
 use mathlib.Core.Path.{_≡_, refl, sym, ap, subst, _∙_}
 use mathlib.Core.Bool.{Bool, true, false, cond, not}
 use mathlib.Core.List.{List, [], _∷_, _++_}
-use mathlib.Core.Logic.{_⊎_, inl, inr, ⊎-elim}
-use Prim.Native.Nat.{ℕ, zero, suc, _+_, _-_, _<_, _≤_}
+use mathlib.Core.Logic.{inl, inr}
+use Prim.Native.Nat.{ℕ, zero, suc, _+_, _-_}
 use native.Mathlib.Nat.{add-zero}
 use native.Mathlib.Omega.{arith}
 use lib.Dec.{eqb}
 use lib.ListN.{length, take, drop}
 use Rattle.std.proofs.shelf.Fronts.{front-rest}
-use Rattle.std.proofs.shelf.Lists.{append-nil, length-append, length-drop, length-take-le, append-assoc, drop-all, take-append-le, take-all}
-use Rattle.std.proofs.shelf.Tests.{ne-eqb, eqb-true, both-ways, cases-lt}
-use Rattle.std.specs.declared.option.Option.{Option}
+use Rattle.std.proofs.shelf.Lists.{append-nil, length-append, length-take-le, append-assoc, drop-all, take-append-le, take-all}
+use Rattle.std.proofs.shelf.Tests.{ne-eqb, eqb-true, both-ways}
 use Rattle.std.specs.declared.option.Option.the-variants.{Some, None}
 use Rattle.std.specs.declared.result.Result.{Result}
 use Rattle.std.specs.declared.result.Result.the-variants.{Ok, Err}
@@ -20,11 +19,10 @@ use Rattle.text.specs.declared.tokens.LexFault.{LexFault}
 use Rattle.text.specs.declared.tokens.LexFault.the-variants.{NoToken, CommentOpen, NumberTooLarge, NameTooLong}
 use Rattle.text.specs.declared.tokens.Token.the-variants.{End}
 use Rattle.text.specs.Classes.{classOf}
-use Rattle.text.specs.Laws.{Each, Between, Unclosed, Shaped, Longest, Shapeless, Solid, Wrong, Takes, Ends, Refuses, Next, NextOnly, Lexes}
-use Rattle.text.specs.Lexemes.{blank, inside, letter, digit, meaning, width}
-use Rattle.text.specs.Spellings.{spelledSign}
+use Rattle.text.specs.Laws.{Each, Between, Unclosed, Shaped, Longest, Shapeless, Solid, Takes, Ends, Refuses, Next, NextOnly, Lexes}
+use Rattle.text.specs.Lexemes.{inside, meaning, width}
 use Rattle.text.specs.Steps.{gap, at, Step, took, stepAt}
-use Rattle.text.specs.Tokens.{Lexeme, isEnd}
+use Rattle.text.specs.Tokens.{Lexeme, isEnd, Answer, Verdict}
 use Rattle.text.proofs.Longest.{widest, shaped-some, never-empty, sign-head}
 use Rattle.text.proofs.Steps.{step-solid, takes-token, nothing-means}
 
@@ -185,13 +183,13 @@ next-refuses i text NameTooLong p r =
     next-solid i p text (r .before) (r .rest) (r .whole) (r .between) (r .place) (longest-solid (r .wrong .0) (r .rest) (r .wrong .1))
     ∙ step-longest p (r .wrong .0) (r .rest) (Err NameTooLong) (r .wrong .1) (r .wrong .2)
 
-next-is : (i : ℕ) (text : List ℕ) (a : Result (Placed Lexeme) (Placed LexFault)) (j : ℕ) → Next i text a j → next i text ≡ record { answer = a; after = j }
+next-is : (i : ℕ) (text : List ℕ) (a : Answer) (j : ℕ) → Next i text a j → next i text ≡ record { answer = a; after = j }
 next-is i text _ j (Next.ends e) = next-ends i j text e
 next-is i text _ j (Next.takes {t} rest k) = next-takes i j text rest t k
 next-is i text _ _ (Next.refuses {f} r) = next-refuses i text (f .item) (f .place) r
 
 -- Nothing else may come next.
-pub next-only : (i : ℕ) (text : List ℕ) (a : Result (Placed Lexeme) (Placed LexFault)) (j : ℕ) → Next i text a j → NextOnly i text a j
+pub next-only : (i : ℕ) (text : List ℕ) (a : Answer) (j : ℕ) → Next i text a j → NextOnly i text a j
 next-only i text a j n b k m =
     let e = sym (next-is i text b k m) ∙ next-is i text a j n in
     (ap (λ (s : Step). s .answer) e, ap (λ (s : Step). s .after) e)
@@ -205,7 +203,7 @@ takes-rest i j text rest t k =
     let m : j - i ≡ length (k .before ++ k .bytes) = omega arith in
     ap (λ l. drop l text) m ∙ front-rest text (k .before ++ k .bytes) rest (k .whole ∙ sym (append-assoc (k .before) (k .bytes) rest))
 
-abbrev Says : ℕ → List ℕ → Result (Placed Lexeme) (Placed LexFault) → ℕ → Type 0
+abbrev Says : ℕ → List ℕ → Answer → ℕ → Type 0
 Says i text a j = next i text ≡ record { answer = a; after = j }
 
 -- the end, a fault and a token exclude one another
@@ -219,12 +217,12 @@ end-token i text rest p j t a k =
     let e = ap (λ (s : Step). ended (s .answer)) (sym a ∙ next-takes i j text rest t k) in
     both-ways true (e ∙ takes-token text i j t rest k) refl
   where
-    ended : Result (Placed Lexeme) (Placed LexFault) → Bool
+    ended : Answer → Bool
     ended (Ok x) = isEnd (x .item)
     ended (Err f) = true
 
 -- A text can be taken apart in one way only.
-pub lexes-only : (i : ℕ) (text : List ℕ) (ts us : List (Placed Lexeme)) (v w : Result ℕ (Placed LexFault)) → Lexes i text ts v → Lexes i text us w → (us ≡ ts) × (w ≡ v)
+pub lexes-only : (i : ℕ) (text : List ℕ) (ts us : List (Placed Lexeme)) (v w : Verdict) → Lexes i text ts v → Lexes i text us w → (us ≡ ts) × (w ≡ v)
 lexes-only i text _ _ _ _ (Lexes.ends e) (Lexes.ends f) = (refl, ap Ok (f .place ∙ sym (e .place)))
 lexes-only i text _ _ _ _ (Lexes.ends {p = p} e) (Lexes.refuses {f = f} r) =
     absurd (end-fault i text (at End p) f p (f .place) (next-ends i p text e) (next-refuses i text (f .item) (f .place) r))

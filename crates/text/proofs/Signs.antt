@@ -1,7 +1,7 @@
 -- The signs: what antt computes of each, and the longest at the front of a text.
-use mathlib.Core.Path.{_≡_, refl, sym, ap, subst, _∙_}
-use mathlib.Core.List.{List, [], _∷_, _++_}
-use Prim.Native.Nat.{ℕ, _+_, _-_, min, _<_, _≤_}
+use mathlib.Core.Path.{_≡_, refl, sym, ap, _∙_}
+use mathlib.Core.List.{List, _++_}
+use Prim.Native.Nat.{ℕ, _-_, min, _<_, _≤_}
 use native.Mathlib.Omega.{arith}
 use mathlib.Core.Logic.{_⊎_, inl, inr, ⊎-elim}
 use lib.Dec.{lit<}
@@ -10,15 +10,14 @@ use lib.ListN.{length, getD, take, drop}
 use Rattle.std.proofs.shelf.Lists.{take-append-drop, take-append-le, take-all, getD-take}
 use Rattle.std.specs.declared.option.Option.{Option}
 use Rattle.std.specs.declared.option.Option.the-variants.{Some, None}
-use Rattle.std.specs.declared.result.Result.{Result}
-use Rattle.std.specs.declared.result.Result.the-variants.{Ok, Err}
+use Rattle.std.specs.declared.result.Result.the-variants.{Ok}
 use Rattle.text.specs.declared.spellings.Sign.{Sign}
 use Rattle.text.specs.declared.spellings.Sign.the-variants as sign
 use Rattle.text.specs.declared.tokens.Token.the-variants as token
 use Rattle.text.specs.Classes.{classOf}
 use Rattle.text.specs.Lexemes.{meaning}
 use Rattle.text.specs.Spellings.{spelledSign, everySign, signOf, signAt, signFrom}
-use Rattle.text.proofs.Spelled.{whose-spells, some-same}
+use Rattle.text.proofs.Spelled.{whose-spells}
 
 -- what antt computes of a sign
 pub record Signed (s : Sign) : Type 0 where
@@ -77,6 +76,7 @@ two-first xs n e = ⊎-elim short long (cases-lt (length xs) 2)
   where
     short : length xs < 2 → take (n - 0) xs ≡ take 2 xs
     short h = take-all (n - 0) xs (omega arith) ∙ sym (take-all 2 xs (omega arith))
+
     long : 2 ≤ length xs → take (n - 0) xs ≡ take 2 xs
     long h = let k : n - 0 ≡ 2 = omega arith in ap (λ j. take j xs) k
 
@@ -98,8 +98,10 @@ sign-longest text s more e = ⊎-elim one two (signed s .size)
     by (Some r) h k = let l = signed r .some in (r, ap (λ o. signFrom o (signOf (take 1 text))) h, omega arith)
     by None h k =
         (s, ap (λ o. signFrom o (signOf (take 1 text))) h ∙ ap signOf (front-is text (spelledSign s) more 1 e k) ∙ signed s .found, omega arith)
+
     one : length (spelledSign s) ≡ 1 → (r : Sign) × (signAt text ≡ Some r) × (length (spelledSign s) ≤ length (spelledSign r))
     one k = by (signOf (take 2 text)) refl k
+
     two : length (spelledSign s) ≡ 2 → (r : Sign) × (signAt text ≡ Some r) × (length (spelledSign s) ≤ length (spelledSign r))
     two k =
         (s, ap (λ o. signFrom o (signOf (take 1 text))) (ap signOf (front-is text (spelledSign s) more 2 e k) ∙ signed s .found), omega arith)

@@ -2,14 +2,14 @@
 use mathlib.Core.Path.{_≡_, refl, sym, ap, subst, _∙_}
 use mathlib.Core.Bool.{Bool, true, false, cond}
 use mathlib.Core.List.{List, [], _∷_, _++_}
-use mathlib.Core.Logic.{_⊎_, inl, inr, ⊎-elim}
+use mathlib.Core.Logic.{_⊎_, inl, inr}
 use Prim.Native.Nat.{ℕ, suc, zero, _+_, _-_, _<_, _≤_}
 use native.Mathlib.Omega.{arith}
 use lib.Dec.{eqb, leb}
 use lib.ListN.{length, take, drop}
 use Rattle.std.proofs.shelf.Fronts.{front-rest}
 use Rattle.std.proofs.shelf.Lists.{append-nil, drop-all, append-assoc, drop-drop, length-drop, length-append, length-take-le, take-append-drop}
-use Rattle.std.proofs.shelf.Tests.{eqb-true, both-ways, cases-order}
+use Rattle.std.proofs.shelf.Tests.{eqb-true}
 use Rattle.std.specs.declared.option.Option.{Option}
 use Rattle.std.specs.declared.option.Option.the-variants.{Some, None}
 use Rattle.std.specs.declared.result.Result.{Result}
@@ -20,11 +20,11 @@ use Rattle.text.specs.declared.tokens.Token.the-variants as token
 use Rattle.text.specs.declared.tokens.LexFault.{LexFault}
 use Rattle.text.specs.declared.tokens.LexFault.the-variants.{NoToken, CommentOpen, NumberTooLarge, NameTooLong}
 use Rattle.text.specs.Classes.{classOf}
-use Rattle.text.specs.Laws.{Between, Shaped, Longest, Shapeless, Solid, Wrong, Takes, Ends, Refuses, Next, Shortens}
-use Rattle.text.specs.Lexemes.{letter, digit, meaning, width, wordMeans, numberMeans, magnitudeOf}
-use Rattle.text.specs.Spellings.{keywordOf, spelledSign}
+use Rattle.text.specs.Laws.{Between, Shaped, Longest, Solid, Takes, Ends, Next, Shortens}
+use Rattle.text.specs.Lexemes.{digit, meaning, width, wordMeans, numberMeans, magnitudeOf}
+use Rattle.text.specs.Spellings.{keywordOf}
 use Rattle.text.specs.Steps.{gap, at, Step, took, sized, front, stepAt, stepPast, step}
-use Rattle.text.specs.Tokens.{Lexeme, isEnd}
+use Rattle.text.specs.Tokens.{Lexeme, isEnd, Answer}
 use Rattle.text.proofs.Between.{Skipped, Opened, Came, came}
 use Rattle.text.proofs.Fronts.{meaning-by}
 use Rattle.text.proofs.Longest.{widest, never-empty, shaped-some}
@@ -76,8 +76,15 @@ next-shaped i p n text before rest e b k w l (Ok t) m z =
     let size = length-take-le n rest w in
     Next.takes (drop n rest)
     (record {
-      before = before; bytes = take n rest; whole = e ∙ ap (λ x. before ++ x) (sym same); between = b;
-      longest = subst (Longest (take n rest)) (sym same) l; means = m; place = k; after = ap (λ x. p + x) (sym size) })
+      before = before;
+      bytes = take n rest;
+      whole = e ∙ ap (λ x. before ++ x) (sym same);
+      between = b;
+      longest = subst (Longest (take n rest)) (sym same) l;
+      means = m;
+      place = k;
+      after = ap (λ x. p + x) (sym size);
+    })
 next-shaped i p n text before rest e b k w l (Err NoToken) m z = absurd z
 next-shaped i p n text before rest e b k w l (Err CommentOpen) m z = absurd z
 next-shaped i p n text before rest e b k w l (Err NumberTooLarge) m z =
@@ -124,9 +131,11 @@ lawful text i = go (gap None (drop i text) i) refl
     skipped p s =
         subst (λ l. NextBy i (drop i text) (stepAt p l)) (sym (left text (s .before) (s .rest) i p (s .whole) (s .place)))
         (next-at i p (drop i text) (s .before) (s .rest) (s .whole) (s .between) (s .place) (s .fresh))
+
     opened : (p : ℕ) → Opened i (drop i text) p → NextBy i (drop i text) (stepPast text (Err p))
     opened p s =
         Next.refuses (record { before = s .before; rest = s .rest; whole = s .whole; between = s .between; wrong = s .unclosed; place = s .place })
+
     go : (r : Result ℕ ℕ) → gap None (drop i text) i ≡ r → NextBy i (drop i text) (stepPast text r)
     go (Ok p) e = skipped p (subst (Came None i (drop i text)) e (came None (drop i text) i))
     go (Err p) e = opened p (subst (Came None i (drop i text)) e (came None (drop i text) i))
@@ -214,9 +223,11 @@ takes-onward text i j t rest h k =
     let whole = ap length (k .whole) ∙ length-append (k .before) (k .bytes ++ rest) in
     let more = length-append (k .bytes) rest in
     let both = length-append (k .before) (k .bytes) in
-    let d = length-drop i text in
-    (omega arith, omega arith,
-    left text (k .before ++ k .bytes) rest i j (k .whole ∙ sym (append-assoc (k .before) (k .bytes) rest)) (omega arith))
+    let d = length-drop i text in (
+      omega arith,
+      omega arith,
+      left text (k .before ++ k .bytes) rest i j (k .whole ∙ sym (append-assoc (k .before) (k .bytes) rest)) (omega arith),
+    )
 
 takes-fewer : (text : List ℕ) (i j : ℕ) (t : Placed Lexeme) (rest : List ℕ) → i ≤ length text → Takes i (drop i text) t j rest → length (drop j text) < length (drop i text)
 takes-fewer text i j t rest h k =
@@ -229,7 +240,7 @@ takes-fewer text i j t rest h k =
 pub takes-token : (text : List ℕ) (i j : ℕ) (t : Placed Lexeme) (rest : List ℕ) → Takes i text t j rest → isEnd (t .item) ≡ false
 takes-token text i j t rest k = subst Sizable (k .means) (shaped-sizable (k .bytes) (k .longest .shaped))
 
-pub shortens : (text : List ℕ) (i : ℕ) → i ≤ length text → (a : Result (Placed Lexeme) (Placed LexFault)) (j : ℕ) → Next i (drop i text) a j → Shortens (drop i text) a (drop j text)
+pub shortens : (text : List ℕ) (i : ℕ) → i ≤ length text → (a : Answer) (j : ℕ) → Next i (drop i text) a j → Shortens (drop i text) a (drop j text)
 shortens text i h _ j (Next.ends e) =
     let d = length-drop i text in
     let k = length-drop j text in

@@ -4,10 +4,9 @@ use mathlib.Core.Bool.{Bool, true, false}
 use mathlib.Core.List.{List, [], _∷_, _++_}
 use mathlib.Core.Logic.{_⊎_}
 use Prim.Native.Nat.{ℕ, _+_, _≤_, _<_}
-use lib.ListN.{length}
+use lib.ListN.{length, drop}
 use Rattle.std.specs.Orderings.{When}
 use Rattle.std.specs.shelf.Lists.{All}
-use Rattle.std.specs.declared.result.Result.{Result}
 use Rattle.std.specs.declared.result.Result.the-variants.{Ok, Err}
 use Rattle.text.specs.declared.places.Placed.{Placed}
 use Rattle.text.specs.declared.spellings.Sign.{Sign}
@@ -16,8 +15,8 @@ use Rattle.text.specs.declared.tokens.LexFault.the-variants.{NoToken, CommentO
 use Rattle.text.specs.declared.tokens.Token.the-variants.{End}
 use Rattle.text.specs.Lexemes.{blank, letter, digit, part, inside, meaning}
 use Rattle.text.specs.Spellings.{spelledSign}
-use Rattle.text.specs.Steps.{at}
-use Rattle.text.specs.Tokens.{Lexeme, isEnd}
+use Rattle.text.specs.Steps.{at, step}
+use Rattle.text.specs.Tokens.{Lexeme, isEnd, Answer, Verdict}
 
 -- every byte passes a test
 abbrev pub Each : (ℕ → Bool) → List ℕ → Type 0
@@ -96,32 +95,41 @@ pub record Refuses (i : ℕ) (text : List ℕ) (f : Placed LexFault) : Type 0 wh
   pub place : f .place ≡ i + length before
 
 -- what may come next in a text from place i on, and the place after it
-pub data Next (i : ℕ) (text : List ℕ) : Result (Placed Lexeme) (Placed LexFault) → ℕ → Type 0 where
+pub data Next (i : ℕ) (text : List ℕ) : Answer → ℕ → Type 0 where
   ends : {p : ℕ} → Ends i text p → Next i text (Ok (at End p)) p
   takes : {t : Placed Lexeme} {j : ℕ} (rest : List ℕ) → Takes i text t j rest → Next i text (Ok t) j
   refuses : {f : Placed LexFault} → Refuses i text f → Next i text (Err f) (f .place)
 
 -- and nothing else may
-abbrev pub NextOnly : ℕ → List ℕ → Result (Placed Lexeme) (Placed LexFault) → ℕ → Type 0
-NextOnly i text a j = (b : Result (Placed Lexeme) (Placed LexFault)) (k : ℕ) → Next i text b k → (b ≡ a) × (k ≡ j)
+abbrev pub NextOnly : ℕ → List ℕ → Answer → ℕ → Type 0
+NextOnly i text a j = (b : Answer) (k : ℕ) → Next i text b k → (b ≡ a) × (k ≡ j)
 
 -- What a step leaves of a text: after a token fewer bytes than there were, after the end none, after a fault no more.
-abbrev pub Shortens : List ℕ → Result (Placed Lexeme) (Placed LexFault) → List ℕ → Type 0
+abbrev pub Shortens : List ℕ → Answer → List ℕ → Type 0
 Shortens text (Ok t) rest = When (isEnd (t .item)) (length rest ≡ 0) (length rest < length text)
 Shortens text (Err f) rest = length rest ≤ length text
 
+-- All of a step from place i of a text: the answer and the place after it are those defined, and they are what the rules allow.
+pub record Stepped (text : List ℕ) (i : ℕ) (a : Answer) (j : ℕ) : Type 0 where
+  pub answer : a ≡ step text i .answer
+  pub after : j ≡ step text i .after
+  pub lawful : Next i (drop i text) a j
+  pub only : NextOnly i (drop i text) a j
+  pub shortens : Shortens (drop i text) a (drop j text)
+
 -- A text from place i on is these tokens one after another, and then it ends, or goes on with what is no token.
-pub data Lexes : ℕ → List ℕ → List (Placed Lexeme) → Result ℕ (Placed LexFault) → Type 0 where
+pub data Lexes : ℕ → List ℕ → List (Placed Lexeme) → Verdict → Type 0 where
   ends : {i p : ℕ} {text : List ℕ} → Ends i text p → Lexes i text [] (Ok p)
   refuses : {i : ℕ} {text : List ℕ} {f : Placed LexFault} → Refuses i text f → Lexes i text [] (Err f)
-  takes : {i : ℕ} {text : List ℕ} {t : Placed Lexeme} {ts : List (Placed Lexeme)} {v : Result ℕ (Placed LexFault)} (j : ℕ) (rest : List ℕ) → Takes i text t j rest → Lexes j rest ts v → Lexes i text (t ∷ ts) v
+  takes : {i : ℕ} {text : List ℕ} {t : Placed Lexeme} {ts : List (Placed Lexeme)} {v : Verdict} (j : ℕ) (rest : List ℕ) → Takes i text t j rest → Lexes j rest ts v → Lexes i text (t ∷ ts) v
 
--- a whole text is these tokens, and can be taken apart in no other way
-pub record Apart (text : List ℕ) (ts : List (Placed Lexeme)) (v : Result ℕ (Placed LexFault)) : Type 0 where
+-- A whole text is these tokens, no more than it has bytes, and can be taken apart in no other way.
+pub record Apart (text : List ℕ) (ts : List (Placed Lexeme)) (v : Verdict) : Type 0 where
   pub lexes : Lexes 0 text ts v
-  pub only : (us : List (Placed Lexeme)) (w : Result ℕ (Placed LexFault)) → Lexes 0 text us w → (us ≡ ts) × (w ≡ v)
+  pub few : length ts ≤ length text
+  pub only : (us : List (Placed Lexeme)) (w : Verdict) → Lexes 0 text us w → (us ≡ ts) × (w ≡ v)
 
 -- how many tokens a text has, or what is no token in it
-abbrev pub Counted : List ℕ → Result ℕ (Placed LexFault) → Type 0
+abbrev pub Counted : List ℕ → Verdict → Type 0
 Counted text (Ok n) = (ts : List (Placed Lexeme)) × Apart text ts (Ok (length text)) × (length ts ≡ n)
 Counted text (Err f) = (ts : List (Placed Lexeme)) × Apart text ts (Err f)

@@ -1,9 +1,9 @@
 -- What a piece of text means as a token, and how long the token at the front of a text is.
-use mathlib.Core.Bool.{Bool, true, false, cond, not, _||_}
+use mathlib.Core.Bool.{Bool, cond, not, _||_}
 use mathlib.Core.List.{List, [], _∷_}
 use Prim.Native.Nat.{ℕ, suc, _+_, _-_, _*_}
 use lib.Dec.{eqb, leb}
-use lib.ListN.{length, take}
+use lib.ListN.{length}
 use Rattle.std.specs.declared.option.Option.{Option}
 use Rattle.std.specs.declared.option.Option.the-variants.{Some, None}
 use Rattle.std.specs.declared.result.Result.{Result}
@@ -11,7 +11,7 @@ use Rattle.std.specs.declared.result.Result.the-variants.{Ok, Err}
 use Rattle.text.specs.declared.spellings.Keyword.{Keyword}
 use Rattle.text.specs.declared.spellings.Sign.{Sign}
 use Rattle.text.specs.declared.tokens.LexFault.{LexFault}
-use Rattle.text.specs.declared.tokens.LexFault.the-variants.{NoToken, CommentOpen, NumberTooLarge, NameTooLong}
+use Rattle.text.specs.declared.tokens.LexFault.the-variants.{NoToken, NumberTooLarge, NameTooLong}
 use Rattle.text.specs.declared.tokens.Token.the-variants as token
 use Rattle.text.specs.Classes.{classOf}
 use Rattle.text.specs.Spellings.{keywordOf, signOf, signAt, spelledSign}

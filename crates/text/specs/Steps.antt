@@ -14,7 +14,7 @@ use Rattle.text.specs.declared.tokens.LexFault.{LexFault}
 use Rattle.text.specs.declared.tokens.LexFault.the-variants.{CommentOpen}
 use Rattle.text.specs.declared.tokens.Token.{Token}
 use Rattle.text.specs.declared.tokens.Token.the-variants.{End}
-use Rattle.text.specs.Tokens.{Lexeme, lexeme}
+use Rattle.text.specs.Tokens.{Lexeme, lexeme, Answer}
 use Rattle.text.specs.Lexemes.{blank, meaning, width}
 
 -- From place i on: where the next token stands, past blanks and whole comments, or else where a comment is left open.
@@ -30,7 +30,7 @@ at x p = record { item = x; place = p }
 
 -- a token or a fault, and the place from which to go on
 pub record Step : Type 0 where
-  pub answer : Result (Placed Lexeme) (Placed LexFault)
+  pub answer : Answer
   pub after : ℕ
 
 -- a token of n bytes at p; a fault stays where it is
@@ -69,6 +69,6 @@ taken (Ok t) = Ok (lexeme (t .0), t .1)
 taken (Err f) = Err f
 
 -- an answer, its name by the bytes of the part that it is
-abbrev pub answered : Result (Placed (Token (RefT (List ℕ)))) (Placed LexFault) → Result (Placed Lexeme) (Placed LexFault)
+abbrev pub answered : Result (Placed (Token (RefT (List ℕ)))) (Placed LexFault) → Answer
 answered (Ok t) = Ok (at (lexeme (t .item)) (t .place))
 answered (Err f) = Err f

@@ -3,6 +3,8 @@ use Prim.Native.Nat.{ℕ}
 use mathlib.Core.Bool.{Bool, true, false}
 use mathlib.Core.List.{List}
 use denote.Ref.{RefT, now}
+use Rattle.std.specs.declared.result.Result.{Result}
+use Rattle.text.specs.declared.places.Placed.{Placed}
 use Rattle.text.specs.declared.tokens.LexFault.{LexFault}
 use Rattle.text.specs.declared.tokens.LexFault.the-variants.{NoToken, CommentOpen, NumberTooLarge, NameTooLong}
 use Rattle.text.specs.declared.tokens.Token.{Token}
@@ -26,6 +28,14 @@ isEnd End = true
 -- a token that holds a name as its bytes
 abbrev pub Lexeme : Type 0
 Lexeme = Token (List ℕ)
+
+-- a token or a fault, with its place
+abbrev pub Answer : Type 0
+Answer = Result (Placed Lexeme) (Placed LexFault)
+
+-- of a whole text: a number, or a fault with its place
+abbrev pub Verdict : Type 0
+Verdict = Result ℕ (Placed LexFault)
 
 -- a token whose name is a part of a text, by the bytes of that part
 abbrev pub lexeme : Token (RefT (List ℕ)) → Lexeme

@@ -1,15 +1,15 @@
 //! The lexer: a window on a text that moves from token to token.
 ghost use mathlib.Core.Path.{_≡_};
 ghost use mathlib.Core.Bool.{Bool};
-ghost use Prim.Native.Nat.{ℕ, _+_, _-_, _<_, _≤_};
+ghost use Prim.Native.Nat.{ℕ, _+_, _<_, _≤_};
 ghost use denote.Ref.{now as held};
-ghost use lib.ListN.{length, getD, take, drop};
+ghost use lib.ListN.{length, drop};
 ghost use Rattle.std.specs.declared.option.Option.the-variants.{None};
 ghost use Rattle.text.specs.Spellings.{keywordOf, signAt};
-ghost use Rattle.text.specs.Laws.{Next, NextOnly, Shortens, Counted};
+ghost use Rattle.text.specs.Laws.{Stepped, Counted};
 ghost use Rattle.text.specs.Lexings.{lexed, counted};
 ghost use Rattle.text.specs.Lexemes.{blank, digit, part, inside, runOf, magnitudeOf, wordMeans, numberMeans};
-ghost use Rattle.text.specs.Steps.{gap, step, answered, front, meant, taken};
+ghost use Rattle.text.specs.Steps.{gap, answered, front, meant, taken};
 use crate::classes::BLANK;
 use crate::classes::DIGIT;
 use crate::classes::LETTER;
@@ -136,7 +136,11 @@ fn word<'a>(bytes: &'a [u8]) -> Result<Token<&'a [u8]>, LexFault>
     if let Some(keyword) = keyword_of(bytes) {
         return Ok(Token::Word(keyword));
     }
-    if bytes.len() <= LONGEST { Ok(Token::Name(bytes)) } else { Err(LexFault::NameTooLong) }
+    if bytes.len() <= LONGEST {
+        Ok(Token::Name(bytes))
+    } else {
+        Err(LexFault::NameTooLong)
+    }
 }
 
 /// The number that decimal digits spell.
@@ -202,23 +206,25 @@ impl<'a> Lexer<'a> {
 
     /// Takes the next token.
     pub fn next_token(&mut self) -> Result<Placed<Token<&'a [u8]>>, Placed<LexFault>>
-        ensures answer { λ r. ⌜ answered r ≡ step (now (now (self .entry) .source)) (now (self .entry) .place) .answer ⌝ }
-        ensures place { λ _. ⌜ now (self .exit) .place ≡ step (now (now (self .entry) .source)) (now (self .entry) .place) .after ⌝ }
+        ensures stepped { λ r. ⌜ Stepped (now (now (self .entry) .source)) (now (self .entry) .place) (answered r) (now (self .exit) .place) ⌝ }
         ensures source { λ _. ⌜ now (self .exit) .source ≡ now (self .entry) .source ⌝ }
-        ensures lawful { λ r. ⌜ Next (now (self .entry) .place) (drop (now (self .entry) .place) (now (now (self .entry) .source))) (answered r) (now (self .exit) .place) ⌝ }
-        ensures only { λ r. ⌜ NextOnly (now (self .entry) .place) (drop (now (self .entry) .place) (now (now (self .entry) .source))) (answered r) (now (self .exit) .place) ⌝ }
-        ensures shortens { λ r. ⌜ Shortens (drop (now (self .entry) .place) (now (now (self .entry) .source))) (answered r) (drop (now (self .exit) .place) (now (now (self .entry) .source))) ⌝ }
     {
         let place = match gap_end(self.source, self.place) {
             Ok(place) => place,
             Err(place) => {
                 self.place = place;
-                return Err(Placed { item: LexFault::CommentOpen, place });
+                return Err(Placed {
+                    item: LexFault::CommentOpen,
+                    place,
+                });
             }
         };
         self.place = place;
         if place == self.source.len() {
-            return Ok(Placed { item: Token::End, place });
+            return Ok(Placed {
+                item: Token::End,
+                place,
+            });
         }
         match token_at(&self.source[place..]) {
             Ok((item, width)) => {

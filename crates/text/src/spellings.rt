@@ -2,8 +2,7 @@
 ghost use mathlib.Core.Path.{_≡_};
 ghost use mathlib.Core.List.{List};
 ghost use Prim.Native.Nat.{ℕ};
-ghost use Rattle.text.specs.Spellings.{spelledKeyword, spelledSign, whose, keywordOf, signOf, signAt};
-ghost use lib.ListN.{length};
+ghost use Rattle.text.specs.Spellings.{spelledKeyword, spelledSign, whose, keywordOf, signOf};
 
 /// What is spelled in one way only.
 pub trait Spelled: Copy {
@@ -186,8 +185,8 @@ const SIGNS: [Sign; 17] = [
 ];
 
 /// The first of `all` that `bytes` spell.
-pub fn spelled_by<S: Spelled>(all: &[S], bytes: &[u8]) -> Option<S>
-    ensures { λ r. ⌜ r ≡ whose S·Spelled.spelled (now (all .entry)) (now (bytes .entry)) ⌝ }
+fn spelled_by<S: Spelled>(all: &[S], bytes: &[u8]) -> Option<S>
+    ensures { λ r. ⌜ r ≡ whose spelled (now (all .entry)) (now (bytes .entry)) ⌝ }
 {
     for s in all {
         if s.spelling() == bytes {
@@ -205,7 +204,7 @@ pub fn keyword_of(word: &[u8]) -> Option<Keyword>
 }
 
 /// The sign that the bytes spell.
-pub fn sign_of(bytes: &[u8]) -> Option<Sign>
+pub(crate) fn sign_of(bytes: &[u8]) -> Option<Sign>
     ensures { λ r. ⌜ r ≡ signOf (now (bytes .entry)) ⌝ }
 {
     spelled_by(&SIGNS, bytes)

@@ -1,14 +1,13 @@
-use mathlib.Core.Path.{_≡_, refl, sym, ap, subst, _∙_}
-use mathlib.Core.Bool.{true, false}
-use Prim.Native.Nat.{_+_, _<_, _≤_}
+use mathlib.Core.Path.{_≡_, sym, ap, subst, _∙_}
+use mathlib.Core.Bool.{false}
+use Prim.Native.Nat.{_<_}
 use native.Mathlib.Omega.{arith}
 use borrow.Author.Needs.{needs}
 use denote.Ref.{now}
-use lib.ListN.{length, drop}
-use Rattle.std.proofs.shelf.Lists.{length-drop}
+use lib.ListN.{length}
 use Rattle.std.proofs.shelf.Results.{err-from-errBy}
 use Rattle.std.specs.declared.result.Result.the-variants.{Ok, Err}
-use Rattle.text.specs.Laws.{Counted, Shortens}
+use Rattle.text.specs.Laws.{Counted}
 use Rattle.text.specs.Lexings.{lexed, counted}
 use Rattle.text.specs.Steps.{step}
 use Rattle.text.specs.Tokens.{isEnd, lexeme}
@@ -27,7 +26,7 @@ returns-in-Break-token c =
     let long = ap length same in
     let within = c .loop-token .lexer .within in
     let p = err-from-errBy (c .from-residual .result) (c .from-residual .ensures .1) in
-    let told = c .in-Break-token .ensures tt .answer ∙ ap (λ s. step s i .answer) same in
+    let told = c .in-Break-token .ensures tt .stepped .answer ∙ ap (λ s. step s i .answer) same in
     let answer : c .from-residual .result ≡ counted (lexed text) = p .1 ∙ ap Err (p .2) ∙ count-fault text (c .loop-token .count) i _ (omega arith) told ∙ c .loop-token .inv .2 in
     record { answer = answer; lawful = subst (Counted text) (sym answer) (counted-lawful text) }
 
@@ -38,7 +37,7 @@ returns-in-End c =
     let same = c .loop-token .inv .0 in
     let long = ap length same in
     let within = c .loop-token .lexer .within in
-    let told = c .in-Continue-token .ensures tt .answer ∙ ap (λ s. step s i .answer) same in
+    let told = c .in-Continue-token .ensures tt .stepped .answer ∙ ap (λ s. step s i .answer) same in
     let answer : Ok (c .loop-token .count) ≡ counted (lexed text) = count-end text (c .loop-token .count) i _ (omega arith) told (ap (λ x. isEnd (lexeme x)) (c .in-End .is)) ∙ c .loop-token .inv .2 in
     record { answer = answer; lawful = subst (Counted text) (sym answer) (counted-lawful text) }
 
@@ -51,7 +50,7 @@ moves-on c =
     let kept = ap (λ s. length (now s)) (c .in-Continue-token .ensures tt .source) in
     let within = c .next-token .last .self .within in
     farther-on (c .loop-token .lexer .source .now) (c .loop-token .lexer .place) (c .next-token .last .self .place) (c .in-Continue-token .token .place) (lexeme (c .in-Continue-token .token .item))
-    (omega arith) (token-here c) (c .in-Continue-token .ensures tt .shortens)
+    (omega arith) (token-here c) (c .in-Continue-token .ensures tt .stepped .shortens)
 
 pub add-count : need.add-count
 add-count c =
@@ -78,6 +77,6 @@ loop-token-again c =
     let within = c .loop-token .lexer .within in
     let few = c .loop-token .inv .1 in
     let on = moves-on c in
-    let told = c .in-Continue-token .ensures tt .answer ∙ ap (λ s. step s i .answer) same in
-    let after = c .in-Continue-token .ensures tt .place ∙ ap (λ s. step s i .after) same in
+    let told = c .in-Continue-token .ensures tt .stepped .answer ∙ ap (λ s. step s i .answer) same in
+    let after = c .in-Continue-token .ensures tt .stepped .after ∙ ap (λ s. step s i .after) same in
     (kept ∙ same, omega arith, count-more text (c .loop-token .count) i j _ (omega arith) told after (token-here c) ∙ c .loop-token .inv .2)

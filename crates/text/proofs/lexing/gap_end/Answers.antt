@@ -1,5 +1,5 @@
-use mathlib.Core.Path.{_≡_, sym, _∙_}
-use Prim.Native.Nat.{ℕ, _+_, _-_, _≤_, _<_}
+use mathlib.Core.Path.{sym, _∙_}
+use Prim.Native.Nat.{_+_, _<_}
 use native.Mathlib.Omega.{arith}
 use lib.ListN.{length}
 use Rattle.text.specs.Lexemes.{blank, inside}
@@ -16,11 +16,11 @@ returns-then-place-text c =
     let e = run-tail blank text p n (c .run-place .ensures .run) in
     let past = sym (c .loop-place .inv .0) ∙ past-blanks text p n e in
     elim (c .then-place-text .came) [
-      then-place-text·by·then-place-text w ↦ sym (past ∙ gap-end text (p + n) (omega arith))
-    | then-place-text·by·else-place-text·then-text-place-ne123 w ↦
-        let within = within-tail text p n (c .loop-place .inv .1) (c .run-place .ensures .within) in
-        let h : p + n < length text = omega arith in
-        sym (past ∙ gap-token text (p + n) h (after-blanks text p n e h) (w .if-text-place-ne123 .taken))
+      | then-place-text·by·then-place-text w ↦ sym (past ∙ gap-end text (p + n) (omega arith))
+      | then-place-text·by·else-place-text·then-text-place-ne123 w ↦
+          let within = within-tail text p n (c .loop-place .inv .1) (c .run-place .ensures .within) in
+          let h : p + n < length text = omega arith in
+          sym (past ∙ gap-token text (p + n) h (after-blanks text p n e h) (w .if-text-place-ne123 .taken))
     ]
 
 pub returns-then-place-comment : need.returns-then-place-comment

@@ -1,13 +1,14 @@
-use mathlib.Core.Path.{_≡_, sym, _∙_}
+use mathlib.Core.Path.{sym, _∙_}
 use Prim.Native.Nat.{_+_}
 use lib.ListN.{drop}
 use Rattle.text.proofs.Numbers.{value-more, value-all, magnitude-small, magnitude-large}
 use Rattle.text.proofs.lexing.magnitude.Needs as need
 
 pub loop-b-again : need.loop-b-again
-loop-b-again c =
-    (value-more (c .loop-b .value) (c .from .result) (c .args .digits .now) (c .loop-b .b-index) (c .loop-b-test .taken) (c .from .ensures ∙ c .saturating-sub .ensures) ∙ c .loop-b .inv .0
-    , c .if-value-gt-LARGEST .left)
+loop-b-again c = (
+  value-more (c .loop-b .value) (c .from .result) (c .args .digits .now) (c .loop-b .b-index) (c .loop-b-test .taken) (c .from .ensures ∙ c .saturating-sub .ensures) ∙ c .loop-b .inv .0,
+  c .if-value-gt-LARGEST .left,
+)
 
 pub returns : need.returns
 returns c =

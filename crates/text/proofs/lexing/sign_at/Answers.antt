@@ -1,6 +1,4 @@
-use mathlib.Core.Path.{sym, ap, _∙_}
-use lib.ListN.{take}
-use Rattle.text.specs.Spellings.{signOf, signFrom}
+use mathlib.Core.Path.{sym, _∙_}
 use Rattle.text.proofs.Signs.{sign-two}
 use Rattle.text.proofs.lexing.sign_at.Needs as need
 

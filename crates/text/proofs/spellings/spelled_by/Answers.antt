@@ -1,5 +1,4 @@
-use mathlib.Core.Path.{_≡_, sym, ap, _∙_}
-use mathlib.Core.Bool.{true, false}
+use mathlib.Core.Path.{sym, ap, _∙_}
 use Rattle.std.specs.shelf.Text.{sameBytes}
 use Rattle.text.proofs.Spelled.{tested, whose-found, whose-next, whose-none}
 use Rattle.text.proofs.spellings.spelled_by.Needs as need

@@ -1,8 +1,6 @@
-use mathlib.Core.Path.{_≡_, refl, sym, ap, _∙_}
-use Prim.Native.Nat.{_+_, _<_, _≤_}
+use mathlib.Core.Path.{refl, sym, _∙_}
 use native.Mathlib.Omega.{arith}
 use borrow.Author.Needs.{needs}
-use lib.ListN.{length}
 use Rattle.text.proofs.Steps.{gap-ok-within, gap-err-within, token-within, step-open, step-end, step-token, step-fault}
 use Rattle.text.proofs.Stepped.{stepped}
 use Rattle.text.proofs.lexing.Lexer.next_token.Needs as need
@@ -14,8 +12,7 @@ ghost-self c =
 pub returns-in-Err : need.returns-in-Err
 returns-in-Err c =
     let e = step-open (c .args .self .now .source .now) (c .args .self .now .place) (c .in-Err .place) (sym (c .gap-end .ensures) ∙ c .in-Err .is) in
-    let s = stepped (c .args .self .now .source .now) (c .args .self .now .place) _ (c .args .self .now .within) e in
-    record { answer = s .answer; place = s .after; source = refl; lawful = s .lawful; only = s .only; shortens = s .shortens }
+    record { stepped = stepped (c .args .self .now .source .now) (c .args .self .now .place) _ (c .args .self .now .within) e; source = refl }
 
 pub ghost-self-2 : need.ghost-self-2
 ghost-self-2 c =
@@ -24,8 +21,7 @@ ghost-self-2 c =
 pub returns-then-place-self : need.returns-then-place-self
 returns-then-place-self c =
     let e = step-end (c .args .self .now .source .now) (c .args .self .now .place) (c .in-Ok .place) (sym (c .gap-end .ensures) ∙ c .in-Ok .is) (omega arith) in
-    let s = stepped (c .args .self .now .source .now) (c .args .self .now .place) _ (c .args .self .now .within) e in
-    record { answer = s .answer; place = s .after; source = refl; lawful = s .lawful; only = s .only; shortens = s .shortens }
+    record { stepped = stepped (c .args .self .now .source .now) (c .args .self .now .place) _ (c .args .self .now .within) e; source = refl }
 
 pub add-self : need.add-self
 add-self c =
@@ -46,8 +42,7 @@ returns-in-Ok-token-at c =
     let g = sym (c .gap-end .ensures) ∙ c .in-Ok .is in
     let within = gap-ok-within text (c .args .self .now .place) (c .in-Ok .place) (c .args .self .now .within) g .1 in
     let e = step-token text (c .args .self .now .place) (c .in-Ok .place) (c .in-Ok-token-at .width) _ g (omega arith) (c .in-Ok-token-at .ensures tt) in
-    let s = stepped (c .args .self .now .source .now) (c .args .self .now .place) _ (c .args .self .now .within) e in
-    record { answer = s .answer; place = s .after; source = refl; lawful = s .lawful; only = s .only; shortens = s .shortens }
+    record { stepped = stepped (c .args .self .now .source .now) (c .args .self .now .place) _ (c .args .self .now .within) e; source = refl }
 
 pub returns-in-Err-token-at : need.returns-in-Err-token-at
 returns-in-Err-token-at c =
@@ -55,5 +50,4 @@ returns-in-Err-token-at c =
     let g = sym (c .gap-end .ensures) ∙ c .in-Ok .is in
     let within = gap-ok-within text (c .args .self .now .place) (c .in-Ok .place) (c .args .self .now .within) g .1 in
     let e = step-fault text (c .args .self .now .place) (c .in-Ok .place) (c .in-Err-token-at .item) g (omega arith) (c .in-Err-token-at .ensures tt) in
-    let s = stepped (c .args .self .now .source .now) (c .args .self .now .place) _ (c .args .self .now .within) e in
-    record { answer = s .answer; place = s .after; source = refl; lawful = s .lawful; only = s .only; shortens = s .shortens }
+    record { stepped = stepped (c .args .self .now .source .now) (c .args .self .now .place) _ (c .args .self .now .within) e; source = refl }
