@@ -1,0 +1,9 @@
+pub mod Fronts
+pub mod Magnitudes
+pub mod Numbers
+pub mod Pieces
+pub mod Puts
+pub mod Ranges
+pub mod Readback
+pub mod Runs
+pub mod Writes

@@ -1,0 +1,15 @@
+use borrow.Author.Needs.{needs}
+use Prim.Native.Nat.{_-_}
+use native.Mathlib.Omega.{arith}
+use lib.IntN.{pos}
+use lib.ListN.{getD}
+use mir.Val.{SFits}
+use mir.Syntax.{w32}
+use Rattle.std.proofs.shelf.Signed.{toZ-ofZ}
+use Rattle.sets.proofs.Removing.{greatest-of}
+use Rattle.sets.proofs.rows.Row.greatest.Needs as need
+
+pub returns-else-self-eq0 : need.returns-else-self-eq0
+returns-else-self-eq0 c =
+    let fx : SFits w32 (getD (c .args .self .now .cells) (c .args .self .now .count - 1) (pos 0)) = search needs in
+    simp toZ-ofZ (greatest-of (c .args .self .now .cells) (c .args .self .now .count) (c .if-self-eq0 .left) (omega arith))
