@@ -146,3 +146,27 @@ counted-lawful text = go (lexed text .verdict) (lexes text)
         let e = lexes-end 0 text (lexed text .tokens) p l ∙ zero-add (length text) in
         (lexed text .tokens, apart text (Ok (length text)) (subst (λ q. Lexes 0 text (lexed text .tokens) (Ok q)) e l), refl)
     go (Err f) l = (lexed text .tokens, apart text (Err f) l)
+
+-- Steps beyond those that are needed change nothing.
+fuel-on : (text : List ℕ) (i j n m : ℕ) (a : Answer) → i ≤ length text → length text < i + suc n → length text < i + suc m → (j ≤ length text → length text < j + n → length text < j + m → lexedFrom n text j ≡ lexedFrom m text j) → Next i (drop i text) a j → onward a (lexedFrom n text j) ≡ onward a (lexedFrom m text j)
+fuel-on text i j n m _ h f g ih (Next.ends e) = refl
+fuel-on text i j n m _ h f g ih (Next.refuses r) = refl
+fuel-on text i j n m _ h f g ih (Next.takes {t} rest k) =
+    let o = takes-onward text i j t rest h k in
+    ap (onward (Ok t)) (ih (o .1) (omega arith) (omega arith))
+
+fuel-enough : (n m : ℕ) (text : List ℕ) (i : ℕ) → i ≤ length text → length text < i + n → length text < i + m → lexedFrom n text i ≡ lexedFrom m text i
+unfolding lexedFrom
+fuel-enough zero m text i h f g = absurd (omega arith)
+fuel-enough (suc n) zero text i h f g = absurd (omega arith)
+fuel-enough (suc n) (suc m) text i h f g =
+    fuel-on text i (step text i .after) n m (step text i .answer) h f g (fuel-enough n m text (step text i .after)) (lawful text i)
+
+unroll : (text : List ℕ) (i : ℕ) → lexedFrom (suc (suc (length text))) text i ≡ onward (step text i .answer) (lexedFrom (suc (length text)) text (step text i .after))
+unfolding lexedFrom
+unroll text i = refl
+
+-- the tokens from a place on are the one there and those after it
+pub lexed-step : (text : List ℕ) (i : ℕ) → i ≤ length text → lexedFrom (suc (length text)) text i ≡ onward (step text i .answer) (lexedFrom (suc (length text)) text (step text i .after))
+lexed-step text i h =
+    fuel-enough (suc (length text)) (suc (suc (length text))) text i h (omega arith) (omega arith) ∙ unroll text i

@@ -188,7 +188,7 @@ fn token_at<'a>(rest: &'a [u8]) -> Result<(Token<&'a [u8]>, usize), LexFault>
 }
 
 /// A text and a place in it, from which the next token is taken.
-#[derive(Drop)]
+#[derive(Clone, Copy)]
 pub struct Lexer<'a> {
     source: &'a [u8],
     place: usize,

@@ -1,0 +1,12 @@
+pub mod Classes
+pub mod Completeness
+pub mod Heads
+pub mod Inversions
+pub mod Lacking
+pub mod Leaves
+pub mod Outcomes
+pub mod Quiets
+pub mod Repeats
+pub mod Samples
+pub mod Soundness
+pub mod Viability

@@ -1,0 +1,125 @@
+//! The reader: it sees one token ahead, and writes a record for each node.
+ghost use mathlib.Core.Path.{_≡_};
+ghost use mathlib.Core.Bool.{false};
+ghost use Prim.Native.Nat.{_+_, _<_, _^_};
+ghost use Rattle.std.specs.Results.{Cases};
+ghost use Rattle.grammar.specs.Parsers.{misfit};
+ghost use Rattle.text.specs.Tokens.{isEnd, lexeme};
+ghost use Rattle.reader.specs.States.{streamOf, Sound, Lends, Goes, Stays};
+ghost use Rattle.reader.specs.Steps.{advanced, tailOf, frontOf, misfitOf, tookBy, takenOf};
+ghost use Rattle.reader.specs.Nodes.{withNext};
+ghost use Rattle.table.specs.Records.{zero};
+ghost use lib.ListN.{set, getD};
+use grammar::classing::LARGE;
+use grammar::classing::token_class;
+use grammar::faults::GrammarFault;
+use table::nodes::Node;
+use text::lexing::Lexer;
+use text::places::Placed;
+use text::tokens::LexFault;
+use text::tokens::Token;
+
+/// A text that is being read into a table.
+#[derive(Drop)]
+pub struct Reader<'s, 't> {
+    lexer: Lexer<'s>,
+    /// The token at hand, and its place.
+    token: Token<&'s [u8]>,
+    place: u16,
+    table: &'t mut [Node],
+    /// How many nodes there are, whether or not the table has room for them.
+    count: u16,
+}
+
+impl<'s, 't> Reader<'s, 't> {
+    /// Goes on to the next token.
+    fn advance(&mut self) -> Result<(), Placed<GrammarFault>>
+        requires sound { ⌜ Sound (now self) ⌝ }
+        requires token { ⌜ isEnd (lexeme (now self .token)) ≡ false ⌝ }
+        ensures lends { λ _. ⌜ Lends (now (self .entry)) (now (self .exit)) ⌝ }
+        ensures written { λ _. ⌜ (now (now (self .exit) .table) ≡ now (now (self .entry) .table)) × (now (self .exit) .count ≡ now (self .entry) .count) ⌝ }
+        ensures goes { λ r. ⌜ Cases r (λ _. Goes (now (self .entry)) (now (self .exit)) × (now (self .entry) .place < now (self .exit) .place)) (λ _. Unit {0}) ⌝ }
+        ensures stream { λ r. ⌜ advanced r (streamOf (now (self .exit))) ≡ tailOf (streamOf (now (self .entry))) ⌝ }
+    {
+        match self.lexer.next_token() {
+            Ok(next) => {
+                self.token = next.item;
+                self.place = next.place as u16;
+                Ok(())
+            }
+            Err(fault) => Err(Placed {
+                item: GrammarFault::Lexical(fault.item),
+                place: fault.place,
+            }),
+        }
+    }
+
+    /// The class of the token at hand.
+    fn class(&self) -> u8
+        ensures { λ r. ⌜ r ≡ frontOf (streamOf (now (self .entry))) ⌝ }
+    {
+        token_class(self.token)
+    }
+
+    /// The refusal of the token at hand.
+    fn misfit(&self) -> Placed<GrammarFault>
+        ensures { λ r. ⌜ r ≡ misfitOf (streamOf (now (self .entry))) ⌝ }
+    {
+        let item = if self.class() == LARGE {
+            GrammarFault::Lexical(LexFault::NumberTooLarge)
+        } else {
+            GrammarFault::Misfit
+        };
+        Placed {
+            item,
+            place: self.place as usize,
+        }
+    }
+
+    /// Takes the token at hand, if it is of a class other than the end's.
+    fn take(&mut self, class: u8) -> Result<Placed<Token<&'s [u8]>>, Placed<GrammarFault>>
+        requires sound { ⌜ Sound (now self) ⌝ }
+        requires some { ⌜ 0 < class ⌝ }
+        ensures lends { λ _. ⌜ Lends (now (self .entry)) (now (self .exit)) ⌝ }
+        ensures written { λ _. ⌜ (now (now (self .exit) .table) ≡ now (now (self .entry) .table)) × (now (self .exit) .count ≡ now (self .entry) .count) ⌝ }
+        ensures goes { λ r. ⌜ Cases r (λ _. Goes (now (self .entry)) (now (self .exit)) × (now (self .entry) .place < now (self .exit) .place)) (λ _. Unit {0}) ⌝ }
+        ensures takes { λ r. ⌜ tookBy r (streamOf (now (self .exit))) ≡ takenOf class (streamOf (now (self .entry))) ⌝ }
+    {
+        if self.class() != class {
+            return Err(self.misfit());
+        }
+        let taken = Placed {
+            item: self.token,
+            place: self.place as usize,
+        };
+        self.advance()?;
+        Ok(taken)
+    }
+
+    /// Writes a node after those that there are, and tells its number.
+    fn record(&mut self, node: Node) -> u16
+        requires { ⌜ now self .count + 1 < 2 ^ 16 ⌝ }
+        ensures stays { λ _. ⌜ Stays (now (self .entry)) (now (self .exit)) ⌝ }
+        ensures number { λ r. ⌜ (r ≡ now (self .entry) .count + 1) × (now (self .exit) .count ≡ r) ⌝ }
+        ensures table { λ _. ⌜ now (now (self .exit) .table) ≡ set (now (now (self .entry) .table)) (now (self .entry) .count + 1) node ⌝ }
+    {
+        self.count += 1;
+        let at = self.count as usize;
+        if at < self.table.len() {
+            self.table[at] = node;
+        }
+        self.count
+    }
+
+    /// Makes one node the next of another.
+    fn link(&mut self, last: u16, next: u16)
+        ensures stays { λ _. ⌜ Stays (now (self .entry)) (now (self .exit)) ⌝ }
+        ensures number { λ _. ⌜ now (self .exit) .count ≡ now (self .entry) .count ⌝ }
+        ensures table { λ _. ⌜ now (now (self .exit) .table) ≡ set (now (now (self .entry) .table)) last (withNext next (getD (now (now (self .entry) .table)) last zero)) ⌝ }
+    {
+        let at = last as usize;
+        if at < self.table.len() {
+            self.table[at].next = next;
+        }
+    }
+}
