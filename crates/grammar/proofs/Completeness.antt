@@ -3,7 +3,7 @@ use mathlib.Core.Path.{_≡_, refl, sym, ap, subst, _∙_}
 use mathlib.Core.Bool.{Bool, true, false, not, _&&_, Bool-set}
 use mathlib.Core.List.{List, [], _∷_, _++_}
 use mathlib.Core.Logic.{inl, inr}
-use Prim.Native.Nat.{ℕ, zero, suc, _≤_, _<_}
+use Prim.Native.Nat.{ℕ, zero, suc, _≤_}
 use native.Mathlib.Omega.{arith}
 use lib.ListN.{length}
 use Rattle.std.proofs.shelf.Lists.{append-assoc, length-append}
@@ -18,6 +18,7 @@ use Rattle.grammar.specs.Streams.{Stream, from}
 use Rattle.grammar.specs.TokenClasses.{classOf, isClass, among}
 use Rattle.grammar.proofs.Classes.{among-left, among-apart, among-within}
 use Rattle.grammar.proofs.Heads.{Headed, Begun, headed, Fits, fits-headed, fits-some, fits-right}
+use Rattle.grammar.proofs.Unrolling.{long-of}
 use Rattle.grammar.proofs.Lacking.{NoClass, lacking, lacking-in, not-two}
 
 abbrev pub at-hand : List (Placed Lexeme) → Verdict → Stream
@@ -73,10 +74,6 @@ module _ {X : Type 0} (y : Yield X) (cs fs : List ℕ) (item : Stream → Read X
     (on : (ts : List (Placed Lexeme)) (v : Verdict) → Fits cs ts v → more (at-hand ts v) ≡ true)
     (off : (ts : List (Placed Lexeme)) (v : Verdict) → Fits fs ts v → more (at-hand ts v) ≡ false)
     (items : Complete y (cs ++ fs) item) where
-  item-long : (ts : List (Placed Lexeme)) → Headed false cs ts → 0 < length ts
-  item-long ts (inl (e, n)) = absurd (both-ways false refl n)
-  item-long ts (inr b) = let e = ap length (b .are) in omega arith
-
   follows : (xs : List X) (rest : List (Placed Lexeme)) (v : Verdict) → Fits fs rest v → Fits (cs ++ fs) (eachYield y xs ++ rest) v
   follows [] rest v f = fits-right cs fs rest v f
   follows (x ∷ xs) rest v f =
@@ -89,13 +86,13 @@ module _ {X : Type 0} (y : Yield X) (cs fs : List ℕ) (item : Stream → Read X
   loop-is [] zero rest v n f = refl
   loop-is [] (suc k) rest v n f = rw (off rest v f) refl
   loop-is (x ∷ xs) zero rest v n f =
-      let l = item-long (y x) (some x) in
+      let l = long-of false cs (y x) refl (some x) in
       let m = length-append (y x ++ eachYield y xs) rest in
       let o = length-append (y x) (eachYield y xs) in
       absurd (omega arith)
   loop-is (x ∷ xs) (suc k) rest v n f =
       let assoc = append-assoc (y x) (eachYield y xs) rest in
-      let l = item-long (y x) (some x) in
+      let l = long-of false cs (y x) refl (some x) in
       let m = ap length assoc ∙ length-append (y x) (eachYield y xs ++ rest) in
       let goes = on (y x ++ (eachYield y xs ++ rest)) v (fits-some cs (y x) (eachYield y xs ++ rest) v (some x)) in
       let one = items x (eachYield y xs ++ rest) v (follows xs rest v f) in

@@ -9,4 +9,5 @@ pub mod Quiets
 pub mod Repeats
 pub mod Samples
 pub mod Soundness
+pub mod Unrolling
 pub mod Viability

@@ -11,7 +11,7 @@ use Rattle.std.specs.declared.result.Result.the-variants.{Ok, Err}
 use Rattle.text.specs.Tokens.{Verdict}
 use Rattle.grammar.specs.Firsts.{apart}
 use Rattle.grammar.specs.Grammars.{Yield, eachYield}
-use Rattle.grammar.specs.Parsers.{Read, bind, loop, frontClass}
+use Rattle.grammar.specs.Parsers.{Read, frontClass}
 use Rattle.grammar.specs.Streams.{Stream}
 use Rattle.grammar.specs.TokenClasses.{among}
 use Rattle.grammar.specs.Viable.{Tokens, SameFront}
@@ -19,9 +19,7 @@ use Rattle.grammar.proofs.Classes.{among-apart}
 use Rattle.grammar.proofs.Outcomes.{whole, same-class, same-from, Reads, Outcome, andThen, outcome-then}
 use Rattle.grammar.proofs.Quiets.{Quiet, Unmet, unmet-quiet}
 use Rattle.grammar.proofs.Soundness.{Took, took-none}
-
-abbrev pub starts : List ℕ → Stream → Bool
-starts cs s = among cs (frontClass (s .tokens) (s .verdict))
+use Rattle.grammar.proofs.Unrolling.{starts, repeat, again-or-end}
 
 -- the front is the same, so an item begins or does not
 pub starts-same : (cs : List ℕ) (s : Stream) (u rest ts : Tokens) (e : ℕ) (b : Bool) → s .tokens ≡ u ++ rest → SameFront rest (s .verdict) ts → starts cs s ≡ b → starts cs (whole (u ++ ts) e) ≡ b
@@ -35,10 +33,6 @@ off-quiet cs (t ∷ ts) v h = h
 abbrev cons : {X : Type 0} → X → List X → List X
 cons x xs = x ∷ xs
 
--- items for as long as one may begin
-abbrev pub repeat : {X : Type 0} → List ℕ → (Stream → Read X) → Stream → Read (List X)
-repeat cs item s = loop (starts cs) item (length (s .tokens)) s
-
 module _ {X : Type 0} (y : Yield X) (item : Stream → Read X) (cs : List ℕ) (null : Bool)
     (ends : apart cs (0 ∷ 99 ∷ []) ≡ true)
     (long : (x : X) → 0 < length (y x))
@@ -48,39 +42,17 @@ module _ {X : Type 0} (y : Yield X) (item : Stream → Read X) (cs : List ℕ) (
   quiet-off [] (Err f) h = among-apart cs (0 ∷ 99 ∷ []) 99 ends refl
   quiet-off (t ∷ ts) v h = h
 
-  ended : (ts : Tokens) (v : Verdict) → length ts ≤ 0 → among cs (frontClass ts v) ≡ false
-  ended [] v n = quiet-off [] v tt
-  ended (t ∷ ts) v n = absurd (omega arith)
-
   took-shorter : (x : X) (s s₁ : Stream) → Took (y x) s s₁ → length (s₁ .tokens) < length (s .tokens)
   took-shorter x s s₁ t =
       let l = long x in
       let m = ap length (t .tokens) ∙ length-append (y x) (s₁ .tokens) in
       omega arith
 
-  -- with what reads the rest alike, all is read alike
-  same-then : (s : Stream) (r : Read X) → item s ≡ r → (l m : Stream → Read (List X)) → ((s₁ : Stream) → length (s₁ .tokens) < length (s .tokens) → l s₁ ≡ m s₁) → andThen cons r l ≡ andThen cons r m
-  same-then s (Err f) e l m h = refl
-  same-then s (Ok p) e l m h =
-      let o : Reads y item (Quiet cs) s p = subst (Outcome y item (Quiet cs) (Unmet null cs) s) e (items s) in
-      ap (λ w. bind w (λ xs s₂. Ok (p .0 ∷ xs, s₂))) (h (p .1) (took-shorter (p .0) s (p .1) (o .took)))
+  sound-item : (s : Stream) (p : X × Stream) → item s ≡ Ok p → Took (y (p .0)) s (p .1)
+  sound-item s p e = let o : Reads y item (Quiet cs) s p = subst (Outcome y item (Quiet cs) (Unmet null cs) s) e (items s) in o .took
 
-  -- no more steps are made than there are tokens
-  fuel : (k j : ℕ) (s : Stream) → length (s .tokens) ≤ k → length (s .tokens) ≤ j → loop (starts cs) item k s ≡ loop (starts cs) item j s
-  unfolding loop
-  fuel zero zero s a b = refl
-  fuel zero (suc j) s a b = sym (cond-false (starts cs s) _ _ (ended (s .tokens) (s .verdict) a))
-  fuel (suc k) zero s a b = cond-false (starts cs s) _ _ (ended (s .tokens) (s .verdict) b)
-  fuel (suc k) (suc j) s a b =
-      ap (λ w. cond (starts cs s) w (Ok ([], s)))
-      (same-then s (item s) refl (loop (starts cs) item k) (loop (starts cs) item j) (λ s₁ n. fuel k j s₁ (omega arith) (omega arith)))
-
-  again-or-end : (s : Stream) → repeat cs item s ≡ cond (starts cs s) (andThen cons (item s) (repeat cs item)) (Ok ([], s))
-  unfolding loop
-  again-or-end s =
-      fuel (length (s .tokens)) (suc (length (s .tokens))) s (omega arith) (omega arith)
-      ∙ ap (λ w. cond (starts cs s) w (Ok ([], s)))
-      (same-then s (item s) refl (loop (starts cs) item (length (s .tokens))) (repeat cs item) (λ s₁ n. fuel (length (s .tokens)) (length (s₁ .tokens)) s₁ (omega arith) (omega arith)))
+  unrolled : (s : Stream) → repeat cs item s ≡ cond (starts cs s) (andThen cons (item s) (repeat cs item)) (Ok ([], s))
+  unrolled s = again-or-end y item cs ends long sound-item s
 
   abbrev Repeated : Stream → Read (List X) → Type 0
   Repeated s r = Outcome (eachYield y) (repeat cs item) (Quiet cs) (Unmet true cs) s r
@@ -89,7 +61,7 @@ module _ {X : Type 0} (y : Yield X) (item : Stream → Read X) (cs : List ℕ) (
   stop s n = record {
     took = took-none s;
     live = λ a. a;
-    again = λ ts e h. again-or-end (whole ts e) ∙ cond-false _ _ _ (starts-same cs s [] (s .tokens) ts e false refl h n);
+    again = λ ts e h. unrolled (whole ts e) ∙ cond-false _ _ _ (starts-same cs s [] (s .tokens) ts e false refl h n);
     idle = λ q. off-quiet cs (s .tokens) (s .verdict) n;
   }
 
@@ -99,12 +71,19 @@ module _ {X : Type 0} (y : Yield X) (item : Stream → Read X) (cs : List ℕ) (
       outcome-then y (eachYield y) (eachYield y) cons (λ x xs. refl) item (repeat cs item) (repeat cs item)
       (Quiet cs) (Unmet null cs) (Quiet cs) (Unmet true cs) (Quiet cs) (Unmet true cs) [] s
       (λ q r. q) (λ u. absurd (never (unmet-quiet null cs (s .tokens) u))) (λ q u. u)
-      (λ u rest ts e are h n. again-or-end (whole (u ++ ts) e) ∙ cond-true _ _ _ (starts-same cs s u rest ts e true are h on))
+      (λ u rest ts e are h n. unrolled (whole (u ++ ts) e) ∙ cond-true _ _ _ (starts-same cs s u rest ts e true are h on))
       (item s) (items s) (λ x s₁ t. next s₁ (took-shorter x s s₁ t))
 
+  none-left : (s : Stream) → length (s .tokens) ≤ 0 → starts cs s ≡ false
+  none-left s h = quiet-off (s .tokens) (s .verdict) (empty-quiet (s .tokens) h)
+    where
+      empty-quiet : (ts : Tokens) → length ts ≤ 0 → Quiet cs ts
+      empty-quiet [] n = tt
+      empty-quiet (t ∷ ts) n = absurd (omega arith)
+
   repeated : (n : ℕ) (s : Stream) → length (s .tokens) ≤ n → Repeated s (repeat cs item s)
-  repeated zero s h = subst (Repeated s) (sym (again-or-end s ∙ cond-false _ _ _ (ended (s .tokens) (s .verdict) h))) (stop s (ended (s .tokens) (s .verdict) h))
-  repeated (suc n) s h = subst (Repeated s) (sym (again-or-end s)) (go (starts cs s) refl (λ s₁ l. repeated n s₁ (omega arith)))
+  repeated zero s h = subst (Repeated s) (sym (unrolled s ∙ cond-false _ _ _ (none-left s h))) (stop s (none-left s h))
+  repeated (suc n) s h = subst (Repeated s) (sym (unrolled s)) (go (starts cs s) refl (λ s₁ l. repeated n s₁ (omega arith)))
     where
       go : (b : Bool) → starts cs s ≡ b → ((s₁ : Stream) → length (s₁ .tokens) < length (s .tokens) → Repeated s₁ (repeat cs item s₁)) → Repeated s (cond b (andThen cons (item s) (repeat cs item)) (Ok ([], s)))
       go true k next = step s k next

@@ -3,9 +3,7 @@ use mathlib.Core.Path.{_≡_, refl, sym, ap, subst, _∙_}
 use mathlib.Core.Bool.{Bool, true, false, cond, not, _||_}
 use mathlib.Core.List.{List, [], _∷_, _++_}
 use mathlib.Core.Logic.{_⊎_, inl, inr, ⊎-elim}
-use Prim.Native.Nat.{ℕ, zero, suc, _<_}
-use native.Mathlib.Omega.{arith}
-use lib.ListN.{length}
+use Prim.Native.Nat.{ℕ, zero, suc}
 use Rattle.std.proofs.shelf.Lists.{append-nil}
 use Rattle.std.proofs.shelf.Tests.{and-parts, not-true, both-ways, cond-true, cond-false}
 use Rattle.std.specs.declared.result.Result.the-variants.{Ok, Err}
@@ -18,18 +16,15 @@ use Rattle.grammar.specs.Streams.{Stream}
 use Rattle.grammar.specs.TokenClasses.{isClass, among}
 use Rattle.grammar.specs.Viable.{Tokens, SameFront, Continues, Blocked, Viable, tokenOf, easy, goesOn, mayOpen, Ready}
 use Rattle.grammar.proofs.Completeness.{complete-at}
-use Rattle.grammar.proofs.Heads.{Headed, headed}
+use Rattle.grammar.proofs.Heads.{headed}
 use Rattle.grammar.proofs.Inversions.{never-ok}
 use Rattle.grammar.proofs.Leaves.{alive, takes, one, tokenThen, outcome-take, outcome-joint, open-then, opens, outcome-closed}
 use Rattle.grammar.proofs.Outcomes.{whole, Reads, Stuck, Outcome, andThen, outcome-then}
 use Rattle.grammar.proofs.Quiets.{Quiet, Unmet, unmet-quiet, quiet-seq, unmet-seq-left, unmet-seq-right, quiet-alt, unmet-alt, quiet-begun, quiet-more, unmet-more, two-begun, two-same}
-use Rattle.grammar.proofs.Repeats.{starts, starts-same, off-quiet, outcome-repeat}
+use Rattle.grammar.proofs.Repeats.{starts-same, off-quiet, outcome-repeat}
 use Rattle.grammar.proofs.Samples.{sample, sample-in}
 use Rattle.grammar.proofs.Soundness.{took-none}
-
-long-of : (null : Bool) (cs : List ℕ) (ts : Tokens) → null ≡ false → Headed null cs ts → 0 < length ts
-long-of null cs ts h (inl (e, n)) = absurd (both-ways null h n)
-long-of null cs ts h (inr b) = let e = ap length (b .are) in omega arith
+use Rattle.grammar.proofs.Unrolling.{starts, long-of}
 
 -- three readers, as one and then two
 then-three : {X Y Z W : Type 0} (f : X → Y → Z → W) (a : Read X) (b : Stream → Read Y) (c : Stream → Read Z) → bind a (λ x s₁. bind (b s₁) (λ y s₂. bind (c s₂) (λ z s₃. Ok (f x y z, s₃)))) ≡ andThen (λ x (w : Y × Z). f x (w .0) (w .1)) a (λ s₁. andThen (λ y z. (y, z)) (b s₁) c)

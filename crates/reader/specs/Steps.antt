@@ -9,8 +9,10 @@ use Rattle.text.specs.declared.tokens.Token.{Token}
 use Rattle.text.specs.Steps.{at}
 use Rattle.text.specs.Tokens.{Lexeme, Verdict, lexeme}
 use Rattle.grammar.specs.Grammars.{Of}
-use Rattle.grammar.specs.Parsers.{Read, frontClass, misfit, take}
+use Rattle.grammar.specs.Parsers.{Read, bind, frontClass, misfit, take}
 use Rattle.grammar.specs.Streams.{Stream, Refusal, from}
+use Rattle.table.specs.declared.kinds.Kind.{Kind}
+use Rattle.reader.specs.Nodes.{Makes, upon, variable}
 
 abbrev pub advanced : Result (Unit {0}) Refusal → Stream → Result Stream Refusal
 advanced (Ok u) s = Ok s
@@ -40,3 +42,11 @@ bareToken c (Err e) = Err e
 
 abbrev pub takenOf : ℕ → Stream → Read (Placed Lexeme)
 takenOf c s = bareToken c (take c (s .tokens) (s .verdict))
+
+-- two tokens, the second read as a variable under a node at the first
+abbrev pub pairOf : (c e : ℕ) → Stream → Read (Of c × Of e)
+pairOf c e s =
+    bind (take c (s .tokens) (s .verdict)) (λ x s₁. bind (take e (s₁ .tokens) (s₁ .verdict)) (λ y s₂. Ok ((x, y), s₂)))
+
+abbrev pub ofVariable : (c e : ℕ) → Kind → Makes (Of c × Of e)
+ofVariable c e k x n = upon k (x .0 .0 .place) (variable (x .1 .0) n) n

@@ -1,23 +1,53 @@
 //! The reader: it sees one token ahead, and writes a record for each node.
 ghost use mathlib.Core.Path.{_≡_};
 ghost use mathlib.Core.Bool.{false};
-ghost use Prim.Native.Nat.{_+_, _<_, _^_};
+ghost use Prim.Native.Nat.{_+_, _<_, _≤_, _^_};
 ghost use Rattle.std.specs.Results.{Cases};
 ghost use Rattle.grammar.specs.Parsers.{misfit};
+ghost use Rattle.text.specs.Steps.{at};
 ghost use Rattle.text.specs.Tokens.{isEnd, lexeme};
-ghost use Rattle.reader.specs.States.{streamOf, Sound, Lends, Goes, Stays};
-ghost use Rattle.reader.specs.Steps.{advanced, tailOf, frontOf, misfitOf, tookBy, takenOf};
-ghost use Rattle.reader.specs.Nodes.{withNext};
+ghost use Rattle.reader.specs.States.{streamOf, Sound, Lends, Goes, Stays, Held, Recorded, Reads};
+ghost use Rattle.reader.specs.Steps.{advanced, tailOf, frontOf, misfitOf, tookBy, takenOf, pairOf, ofVariable};
+ghost use Rattle.reader.specs.Nodes.{withNext, naming, over, variable};
 ghost use Rattle.table.specs.Records.{zero};
 ghost use lib.ListN.{set, getD};
 use grammar::classing::LARGE;
+use grammar::classing::NAME;
 use grammar::classing::token_class;
 use grammar::faults::GrammarFault;
+use table::kinds::Kind;
 use table::nodes::Node;
 use text::lexing::Lexer;
 use text::places::Placed;
 use text::tokens::LexFault;
 use text::tokens::Token;
+
+/// A node with a name.
+fn naming(kind: Kind, name: Placed<Token<&[u8]>>) -> Node
+    requires { ⌜ Held (lexeme (name .item)) (name .place) ⌝ }
+    ensures { λ r. ⌜ r ≡ naming kind (at (lexeme (name .entry .item)) (name .entry .place)) 0 0 0 0 ⌝ }
+{
+    let length = match name.item {
+        Token::Name(bytes) => bytes.len() as u8,
+        _ => 0,
+    };
+    Node {
+        length,
+        ..Node::bare(kind, name.place as u16)
+    }
+}
+
+/// A node over others.
+fn over(kind: Kind, place: usize, first: u16, second: u16) -> Node
+    requires { ⌜ place ≤ 16384 ⌝ }
+    ensures { λ r. ⌜ r ≡ over kind place first second 0 ⌝ }
+{
+    Node {
+        first,
+        second,
+        ..Node::bare(kind, place as u16)
+    }
+}
 
 /// A text that is being read into a table.
 #[derive(Drop)]
@@ -83,6 +113,7 @@ impl<'s, 't> Reader<'s, 't> {
         ensures lends { λ _. ⌜ Lends (now (self .entry)) (now (self .exit)) ⌝ }
         ensures written { λ _. ⌜ (now (now (self .exit) .table) ≡ now (now (self .entry) .table)) × (now (self .exit) .count ≡ now (self .entry) .count) ⌝ }
         ensures goes { λ r. ⌜ Cases r (λ _. Goes (now (self .entry)) (now (self .exit)) × (now (self .entry) .place < now (self .exit) .place)) (λ _. Unit {0}) ⌝ }
+        ensures held { λ r. ⌜ Cases r (λ t. Held (lexeme (t .item)) (t .place)) (λ _. Unit {0}) ⌝ }
         ensures takes { λ r. ⌜ tookBy r (streamOf (now (self .exit))) ≡ takenOf class (streamOf (now (self .entry))) ⌝ }
     {
         if self.class() != class {
@@ -99,9 +130,7 @@ impl<'s, 't> Reader<'s, 't> {
     /// Writes a node after those that there are, and tells its number.
     fn record(&mut self, node: Node) -> u16
         requires { ⌜ now self .count + 1 < 2 ^ 16 ⌝ }
-        ensures stays { λ _. ⌜ Stays (now (self .entry)) (now (self .exit)) ⌝ }
-        ensures number { λ r. ⌜ (r ≡ now (self .entry) .count + 1) × (now (self .exit) .count ≡ r) ⌝ }
-        ensures table { λ _. ⌜ now (now (self .exit) .table) ≡ set (now (now (self .entry) .table)) (now (self .entry) .count + 1) node ⌝ }
+        ensures { λ r. ⌜ Recorded (now (self .entry)) (now (self .exit)) node r ⌝ }
     {
         self.count += 1;
         let at = self.count as usize;
@@ -109,6 +138,34 @@ impl<'s, 't> Reader<'s, 't> {
             self.table[at] = node;
         }
         self.count
+    }
+
+    /// A name, read as a variable.
+    fn variable(&mut self) -> Result<Placed<u16>, Placed<GrammarFault>>
+        requires sound { ⌜ Sound (now self) ⌝ }
+        ensures { λ r. ⌜ Reads variable (takenOf 51 (streamOf (now (self .entry)))) (now (self .entry)) r (now (self .exit)) ⌝ }
+    {
+        let name = self.take(NAME)?;
+        let item = self.record(naming(Kind::Variable, name));
+        Ok(Placed {
+            item,
+            place: name.place,
+        })
+    }
+
+    /// A token and a variable: a node over the variable, at the token.
+    fn of_variable(&mut self, class: u8, kind: Kind) -> Result<Placed<u16>, Placed<GrammarFault>>
+        requires sound { ⌜ Sound (now self) ⌝ }
+        requires some { ⌜ 0 < class ⌝ }
+        ensures { λ r. ⌜ Reads (ofVariable class 51 kind) (pairOf class 51 (streamOf (now (self .entry)))) (now (self .entry)) r (now (self .exit)) ⌝ }
+    {
+        let sign = self.take(class)?;
+        let variable = self.variable()?;
+        let item = self.record(over(kind, sign.place, variable.item, 0));
+        Ok(Placed {
+            item,
+            place: sign.place,
+        })
     }
 
     /// Makes one node the next of another.

@@ -9,6 +9,7 @@ use Rattle.text.specs.Lexings.{lexedFrom}
 use Rattle.text.specs.Tokens.{lexeme}
 use Rattle.reader.specs.States.{streamBy}
 use Rattle.reader.proofs.Advancing.{advance-ok, advance-err, next-place}
+use Rattle.reader.proofs.Fitting.{next-fits}
 use Rattle.reader.proofs.readers.Reader.advance.Needs as need
 
 pub cast-self : need.cast-self
@@ -28,7 +29,7 @@ returns-in-Ok c =
     record {
       lends = refl;
       written = (refl, refl);
-      goes = (record { source = same; behind = p .1; token = p .3; onward = omega arith; paced = omega arith }, omega arith);
+      goes = (record { source = same; behind = p .1; token = p .3; fits = next-fits (lexer .place) (after .place) _ _ (c .in-Ok .ensures tt .stepped .lawful); onward = omega arith; paced = omega arith }, omega arith);
       stream = ap (λ s. Ok (streamBy (lexeme (c .in-Ok .next .item)) (c .in-Ok .next .place) (lexedFrom (suc (length (now s))) (now s) (after .place)))) same
           ∙ advance-ok (lexer .source .now) (lexer .place) (after .place) (c .args .self .now .place) (lexeme (c .args .self .now .token)) _ (lexer .within) (c .pre .token) (c .in-Ok .ensures tt .stepped);
     }

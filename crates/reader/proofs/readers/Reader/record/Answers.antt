@@ -11,8 +11,8 @@ returns c =
     elim (c .if-at-self .came) [
       | then-at-self w ↦
           let k = ap (λ (r : Reader). r .count) (w .self-is) in
-          record { stays = same-but _ _ (w .self-is) (record { lexer = refl; token = refl; place = refl; lender = refl }); number = (k, refl); table = ap (λ (r : Reader). now (r .table)) (w .self-is) }
+          record { stays = same-but _ _ (w .self-is) (record { lexer = refl; token = refl; place = refl; lender = refl }); numbered = k; count = refl; table = ap (λ (r : Reader). now (r .table)) (w .self-is) }
       | else-at-self w ↦
           let k = ap (λ (r : Reader). r .count) (w .self-is) in
-          record { stays = same-but _ _ (w .self-is) (record { lexer = refl; token = refl; place = refl; lender = refl }); number = (k, refl); table = ap (λ (r : Reader). now (r .table)) (w .self-is) ∙ sym (set-out _ _ _ (w .if-at-self .left)) }
+          record { stays = same-but _ _ (w .self-is) (record { lexer = refl; token = refl; place = refl; lender = refl }); numbered = k; count = refl; table = ap (λ (r : Reader). now (r .table)) (w .self-is) ∙ sym (set-out _ _ _ (w .if-at-self .left)) }
     ]

@@ -6,6 +6,7 @@ use Rattle.text.specs.Tokens.{lexeme}
 use Rattle.grammar.specs.Parsers.{passed}
 use Rattle.reader.specs.States.{streamOf}
 use Rattle.reader.specs.Steps.{tookBy}
+use Rattle.reader.proofs.Fitting.{held-place}
 use Rattle.reader.proofs.Taking.{taken-here, front-class}
 use Rattle.reader.proofs.readers.Reader.take.Needs as need
 
@@ -18,6 +19,7 @@ returns-in-Break-advance c =
       lends = told .lends;
       written = told .written;
       goes = rw (p .1) tt;
+      held = rw (p .1) tt;
       takes = ap (λ r. tookBy r (streamOf (c .advance .last .self))) (p .1 ∙ ap Err (p .2)) ∙ ap (passed (at (lexeme (self .token)) (self .place))) (told .stream) ∙ sym (taken-here (lexeme (self .token)) (self .place) _ (c .args .class) (c .pre .some) (sym (front-class (lexeme (self .token)) (self .place) _) ∙ sym (c .class .ensures) ∙ c .if-class .left));
     }
 
@@ -29,5 +31,6 @@ returns c =
       lends = told .lends;
       written = told .written;
       goes = told .goes;
+      held = (c .pre .sound .fits, held-place _ (c .pre .sound));
       takes = ap (passed (at (lexeme (self .token)) (self .place))) (told .stream) ∙ sym (taken-here (lexeme (self .token)) (self .place) _ (c .args .class) (c .pre .some) (sym (front-class (lexeme (self .token)) (self .place) _) ∙ sym (c .class .ensures) ∙ c .if-class .left));
     }
