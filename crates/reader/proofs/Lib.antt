@@ -7,6 +7,7 @@ pub mod OfVariables
 pub mod ProgramViable
 pub mod Taking
 pub mod Telling
+pub mod Values
 pub mod Worked
 pub mod Writing
 pub mod Written

@@ -11,8 +11,10 @@ use Rattle.text.specs.Tokens.{Lexeme, Verdict, lexeme}
 use Rattle.grammar.specs.Grammars.{Of}
 use Rattle.grammar.specs.Parsers.{Read, bind, frontClass, misfit, take}
 use Rattle.grammar.specs.Streams.{Stream, Refusal, from}
+use lib.IntN.{pos}
 use Rattle.table.specs.declared.kinds.Kind.{Kind}
-use Rattle.reader.specs.Nodes.{Makes, upon, variable}
+use Rattle.table.specs.declared.kinds.Kind.the-variants as kind
+use Rattle.reader.specs.Nodes.{Makes, alone, upon, valued, magnitude, variable}
 
 abbrev pub advanced : Result (Unit {0}) Refusal → Stream → Result Stream Refusal
 advanced (Ok u) s = Ok s
@@ -50,3 +52,7 @@ pairOf c e s =
 
 abbrev pub ofVariable : (c e : ℕ) → Kind → Makes (Of c × Of e)
 ofVariable c e k x n = upon k (x .0 .0 .place) (variable (x .1 .0) n) n
+
+-- a number that stands alone
+abbrev pub positive : Makes (Placed Lexeme)
+positive t n = alone (valued kind.Number (t .place) (pos (magnitude (t .item)))) n

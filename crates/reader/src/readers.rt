@@ -7,12 +7,15 @@ ghost use Rattle.grammar.specs.Parsers.{misfit};
 ghost use Rattle.text.specs.Steps.{at};
 ghost use Rattle.text.specs.Tokens.{isEnd, lexeme};
 ghost use Rattle.reader.specs.States.{streamOf, Sound, Lends, Goes, Stays, Held, Recorded, Reads};
-ghost use Rattle.reader.specs.Steps.{advanced, tailOf, frontOf, misfitOf, tookBy, takenOf, pairOf, ofVariable};
-ghost use Rattle.reader.specs.Nodes.{withNext, naming, over, variable};
+ghost use Rattle.reader.specs.Steps.{advanced, tailOf, frontOf, misfitOf, tookBy, takenOf, pairOf, ofVariable, positive};
+ghost use Rattle.reader.specs.Nodes.{withNext, naming, over, valued, magnitude, minus, variable};
+ghost use Rattle.table.specs.declared.kinds.Kind.the-variants as kind;
 ghost use Rattle.table.specs.Records.{zero};
+ghost use lib.IntN.{pos};
 ghost use lib.ListN.{set, getD};
 use grammar::classing::LARGE;
 use grammar::classing::NAME;
+use grammar::classing::NUMBER;
 use grammar::classing::token_class;
 use grammar::faults::GrammarFault;
 use table::kinds::Kind;
@@ -34,6 +37,43 @@ fn naming(kind: Kind, name: Placed<Token<&[u8]>>) -> Node
     Node {
         length,
         ..Node::bare(kind, name.place as u16)
+    }
+}
+
+/// The magnitude of a number.
+fn magnitude(token: Token<&[u8]>) -> u32
+    ensures { λ r. ⌜ r ≡ magnitude (lexeme (token .entry)) ⌝ }
+{
+    match token {
+        Token::Number(value) => value,
+        _ => 0,
+    }
+}
+
+/// The value of a number that stands alone.
+fn above(number: Token<&[u8]>) -> i32
+    requires { ⌜ magnitude (lexeme number) ≤ 2147483647 ⌝ }
+    ensures { λ r. ⌜ r ≡ pos (magnitude (lexeme (number .entry))) ⌝ }
+{
+    magnitude(number) as i32
+}
+
+/// The value of a number behind a `-`.
+fn below(number: Token<&[u8]>) -> i32
+    requires { ⌜ magnitude (lexeme number) ≤ 2147483648 ⌝ }
+    ensures { λ r. ⌜ r ≡ minus (magnitude (lexeme (number .entry))) ⌝ }
+{
+    -i64::from(magnitude(number)) as i32
+}
+
+/// A node with a value.
+fn valued(place: usize, value: i32) -> Node
+    requires { ⌜ place ≤ 16384 ⌝ }
+    ensures { λ r. ⌜ r ≡ valued kind.Number place value ⌝ }
+{
+    Node {
+        value,
+        ..Node::bare(Kind::Number, place as u16)
     }
 }
 
@@ -150,6 +190,19 @@ impl<'s, 't> Reader<'s, 't> {
         Ok(Placed {
             item,
             place: name.place,
+        })
+    }
+
+    /// A number that stands alone.
+    fn positive(&mut self) -> Result<Placed<u16>, Placed<GrammarFault>>
+        requires sound { ⌜ Sound (now self) ⌝ }
+        ensures { λ r. ⌜ Reads positive (takenOf 52 (streamOf (now (self .entry)))) (now (self .entry)) r (now (self .exit)) ⌝ }
+    {
+        let number = self.take(NUMBER)?;
+        let item = self.record(valued(number.place, above(number.item)));
+        Ok(Placed {
+            item,
+            place: number.place,
         })
     }
 
