@@ -1,4 +1,5 @@
 //! The bench: what the craft would do with the script in the folder that it is run in.
+#![tactic(auto)]
 use account::report;
 use std::fs;
 

@@ -1,4 +1,5 @@
 //! Runs a file of cases through the library, and says which come out otherwise than they should.
+#![tactic(auto)]
 mod files;
 mod listing;
 

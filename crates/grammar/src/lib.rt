@@ -5,5 +5,6 @@
 //! Where the check `told` holds of a grammar, its reader accepts exactly what its trees spell, and each in one way only.
 //!
 //! The code here gives tokens their classes.
+#![tactic(auto)]
 pub mod classing;
 pub mod faults;

@@ -11,6 +11,8 @@
 //! Nothing is allocated. A call of a list port or of a fence takes constant time beside that of the port below. A read of
 //! a text looks at each byte up to the end of the next word at most three times, and a write at 12 bytes at most;
 //! `malformed` is one pass over the input.
+#![tactic(auto)]
+
 mod decimals;
 pub mod faults;
 pub mod fences;

@@ -44,7 +44,7 @@ impl Test for Solid {
 
 /// How many bytes at the front pass the test, up to the first that does not.
 fn run<P: Test>(rest: &[u8]) -> usize
-    ensures run { result ≡ run_of passes rest.now }
+    ensures run { result ≡ run_of P.passes rest.now }
     ensures within { result ≤ length rest.now }
 {
     let mut n = 0;

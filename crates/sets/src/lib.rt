@@ -11,6 +11,8 @@
 //! A set is kept in rising order. `member`, `add` and `remove` search by halving: at most 7 comparisons find the place of
 //! a number, and one more tells whether it stands there. `add` and `remove` then move at most 64 numbers. `empty`,
 //! `count`, `least` and `greatest` take constant time.
+#![tactic(auto)]
+
 pub mod faults;
 pub mod laws;
 pub mod lent;

@@ -8,6 +8,8 @@
 //! [`heights::Restore`] puts a height back to what it was, on every way out of a block.
 //!
 //! Each call takes constant time, writes one slot at most, and takes no memory of its own.
+#![tactic(auto)]
+
 pub mod entries;
 pub mod heights;
 pub mod stacks;

@@ -6,6 +6,8 @@
 //!
 //! Nothing is copied and nothing is allocated: a name is a part of the text. One pass, constant stack: a byte is looked at
 //! a bounded number of times, a word is compared with 29 spellings and a sign with 34 at most.
+#![tactic(auto)]
+
 pub mod classes;
 pub mod lexing;
 pub mod places;

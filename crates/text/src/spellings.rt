@@ -184,7 +184,7 @@ const SIGNS: [Sign; 17] = [
 
 /// The first of `all` that `bytes` spell.
 fn spelled_by<S: Spelled>(all: &[S], bytes: &[u8]) -> Option<S>
-    ensures { result ≡ whose spelled all.now bytes.now }
+    ensures { result ≡ whose S.spelled all.now bytes.now }
 {
     for s in all {
         if s.spelling() == bytes {

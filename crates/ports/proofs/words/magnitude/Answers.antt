@@ -13,12 +13,12 @@ pub returns-then-value-limit : goal.returns-then-value-limit
 returns-then-value-limit c =
     let ds = c.args.digits.now in
     let some : 0 < length ds = omega arith in
-    let more = magnitude_more c.args.most c.loop-b.value c.from.result ds c.loop-b.b-index c.loop-b-test.true (sym c.if-not-is-digit.ensures) c.from.ensures in
+    let more = magnitude_more c.args.most c.loop-b.value c.from.result ds c.loop-b.b-index c.loop-b-test.true (sym c.if-not-is_digit.ensures) c.from.ensures in
     sym (magnitude_some c.args.most ds some ∙ sym c.loop-b.invariant.0 ∙ sym more ∙ magnitude_large c.args.most _ (drop (c.loop-b.b-index + 1) ds) (omega arith))
 
 pub loop-b-preserved : goal.loop-b-preserved
 loop-b-preserved c = (
-  magnitude_more c.args.most c.loop-b.value c.from.result c.args.digits.now c.loop-b.b-index c.loop-b-test.true (sym c.if-not-is-digit.ensures) c.from.ensures ∙ c.loop-b.invariant.0,
+  magnitude_more c.args.most c.loop-b.value c.from.result c.args.digits.now c.loop-b.b-index c.loop-b-test.true (sym c.if-not-is_digit.ensures) c.from.ensures ∙ c.loop-b.invariant.0,
   c.if-value-limit.false,
 )
 

@@ -7,8 +7,8 @@ use Rattle.sets.proofs.lent.add_in.Goals as goal
 
 pub returns-then-add : goal.returns-then-add
 returns-then-add c =
-    let e = c.in-ok-i.ensures in
-    let i = c.in-ok-i.i in
+    let e = c.in_ok-i.ensures in
+    let i = c.in_ok-i.i in
     let rows = c.args.rows.now in
     let r = c.index-rows-i.result in
     let g = seen (λ m. c.add.result ≡ takes m (items (get_or rows i r))) c.args.n c.ranges.n c.add.ensures.gives in
@@ -20,8 +20,8 @@ returns-then-add c =
 
 pub returns-else-add : goal.returns-else-add
 returns-else-add c =
-    let e = c.in-ok-i.ensures in
-    let i = c.in-ok-i.i in
+    let e = c.in_ok-i.ensures in
+    let i = c.in_ok-i.i in
     let rows = c.args.rows.now in
     let r = c.index-rows-i.result in
     let g = seen (λ m. c.add.result ≡ takes m (items (get_or rows i r))) c.args.n c.ranges.n c.add.ensures.gives in

@@ -7,8 +7,8 @@ use Rattle.sets.proofs.lent.remove_in.Goals as goal
 
 pub returns : goal.returns
 returns c =
-    let e = c.in-ok-i.ensures in
-    let i = c.in-ok-i.i in
+    let e = c.in_ok-i.ensures in
+    let i = c.in_ok-i.i in
     let rows = c.args.rows.now in
     let r = c.index-rows-i.result in
     let h = seen (λ m. items c.remove.new.self ≡ cut m (items (get_or rows i r))) c.args.n c.ranges.n c.remove.ensures in

@@ -30,20 +30,20 @@ returns-in-End c =
     let same = c.loop-token.invariant.0 in
     let long = ap length same in
     let within = c.loop-token.lexer.within in
-    let told = c.in-ok-token.ensures.stepped.answer ∙ ap (λ s. (step s i).answer) same in
+    let told = c.in_ok-token.ensures.stepped.answer ∙ ap (λ s. (step s i).answer) same in
     let answer : Ok c.loop-token.count ≡ counted (lexed text) = count_end text c.loop-token.count i _ (omega arith) told (ap (λ x. is_end (lexeme x)) c.in-End.is) ∙ c.loop-token.invariant.2 in
     record { answer = answer; lawful = subst (Counted text) (sym answer) (counted_lawful text) }
 
 -- a token is not the end, and the lexer moves on
-token_here : (c : goal.In-default) → is_end (lexeme c.in-ok-token.token.item) ≡ false
-token_here c = goes_on_lem c.in-ok-token.token.item c.in-default.not-End
+token_here : (c : goal.In_default) → is_end (lexeme c.in_ok-token.token.item) ≡ false
+token_here c = goes_on_lem c.in_ok-token.token.item c.in_default.not-End
 
-moves_on : (c : goal.In-default) → c.loop-token.lexer.place < c.next-token.new.self.place
+moves_on : (c : goal.In_default) → c.loop-token.lexer.place < c.next_token.new.self.place
 moves_on c =
-    let kept = ap (λ s. length s.now) c.in-ok-token.ensures.source in
-    let within = c.next-token.new.self.within in
-    farther_on c.loop-token.lexer.source.now c.loop-token.lexer.place c.next-token.new.self.place c.in-ok-token.token.place (lexeme c.in-ok-token.token.item)
-    (omega arith) (token_here c) c.in-ok-token.ensures.stepped.shortens
+    let kept = ap (λ s. length s.now) c.in_ok-token.ensures.source in
+    let within = c.next_token.new.self.within in
+    farther_on c.loop-token.lexer.source.now c.loop-token.lexer.place c.next_token.new.self.place c.in_ok-token.token.place (lexeme c.in_ok-token.token.item)
+    (omega arith) (token_here c) c.in_ok-token.ensures.stepped.shortens
 
 pub overflow-add-count : goal.overflow-add-count
 overflow-add-count c =
@@ -54,8 +54,8 @@ overflow-add-count c =
 
 pub loop-token-smaller : goal.loop-token-smaller
 loop-token-smaller c =
-    let kept = ap (λ s. length s.now) c.in-ok-token.ensures.source in
-    let within = c.next-token.new.self.within in
+    let kept = ap (λ s. length s.now) c.in_ok-token.ensures.source in
+    let within = c.next_token.new.self.within in
     let on = moves_on c in
     omega arith
 
@@ -63,13 +63,13 @@ pub loop-token-preserved : goal.loop-token-preserved
 loop-token-preserved c =
     let text = c.args.source.now in
     let i = c.loop-token.lexer.place in
-    let j = c.next-token.new.self.place in
+    let j = c.next_token.new.self.place in
     let same = c.loop-token.invariant.0 in
     let long = ap length same in
-    let kept = ap (λ s. s.now) c.in-ok-token.ensures.source in
+    let kept = ap (λ s. s.now) c.in_ok-token.ensures.source in
     let within = c.loop-token.lexer.within in
     let few = c.loop-token.invariant.1 in
     let on = moves_on c in
-    let told = c.in-ok-token.ensures.stepped.answer ∙ ap (λ s. (step s i).answer) same in
-    let after = c.in-ok-token.ensures.stepped.after ∙ ap (λ s. (step s i).after) same in
+    let told = c.in_ok-token.ensures.stepped.answer ∙ ap (λ s. (step s i).answer) same in
+    let after = c.in_ok-token.ensures.stepped.after ∙ ap (λ s. (step s i).after) same in
     (kept ∙ same, omega arith, count_more text c.loop-token.count i j _ (omega arith) told after (token_here c) ∙ c.loop-token.invariant.2)

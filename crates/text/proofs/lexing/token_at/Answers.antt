@@ -33,12 +33,12 @@ returns-in-ok-number c =
 pub returns-in-Some : goal.returns-in-Some
 returns-in-Some c =
     ap (λ w. Ok (token.Sign c.in-Some.sign, length w)) c.spelling.ensures
-    ∙ sym (front_sign c.args.rest.now c.in-Some.sign (sym c.class-of.ensures ∙ c.in-4.is) (sym c.sign-at.ensures ∙ c.in-Some.is))
+    ∙ sym (front_sign c.args.rest.now c.in-Some.sign (sym c.class_of.ensures ∙ c.in-4.is) (sym c.sign_at.ensures ∙ c.in-Some.is))
 
 pub returns-in-None : goal.returns-in-None
 returns-in-None c =
-    let k = sym c.class-of.ensures ∙ c.in-4.is in
-    sym (front_none c.args.rest.now (λ h. omega arith) (λ h. omega arith) (sym c.sign-at.ensures ∙ c.in-None.is))
+    let k = sym c.class_of.ensures ∙ c.in-4.is in
+    sym (front_none c.args.rest.now (λ h. omega arith) (λ h. omega arith) (sym c.sign_at.ensures ∙ c.in-None.is))
 
 pub returns-in-default : goal.returns-in-default
 returns-in-default c = sym (front_unknown c.args.rest.now (search rules) (search rules) (search rules))

@@ -3,4 +3,4 @@ use Rattle.text.proofs.spellings.keyword_of.Goals as goal
 
 pub returns : goal.returns
 unfolding keyword_of
-returns c = c.spelled-by.ensures
+returns c = c.spelled_by.ensures

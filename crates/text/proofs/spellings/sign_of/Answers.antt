@@ -3,4 +3,4 @@ use Rattle.text.proofs.spellings.sign_of.Goals as goal
 
 pub returns : goal.returns
 unfolding sign_of
-returns c = c.spelled-by.ensures
+returns c = c.spelled_by.ensures

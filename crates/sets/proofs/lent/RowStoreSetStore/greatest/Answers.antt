@@ -5,4 +5,4 @@ use Rattle.sets.proofs.lent.RowStoreSetStore.greatest.Goals as goal
 pub returns : goal.returns
 returns c =
     let s = c.args.self.now in
-    asked c.args.slot c.in-ok-i.i c.in-ok-i.ensures s.rows.now s.full c.index-rows-i.result greatest c.greatest.result c.greatest.ensures
+    asked c.args.slot c.in_ok-i.i c.in_ok-i.ensures s.rows.now s.full c.index-rows-i.result greatest c.greatest.result c.greatest.ensures

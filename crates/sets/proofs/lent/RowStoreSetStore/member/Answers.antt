@@ -8,7 +8,7 @@ use Rattle.sets.proofs.lent.RowStoreSetStore.member.Goals as goal
 pub returns : goal.returns
 returns c =
     let s = c.args.self.now in
-    let i = c.in-ok-i.i in
+    let i = c.in_ok-i.i in
     let r = c.index-rows-i.result in
     let h = seen (λ m. c.has.result ≡ has m (items (get_or s.rows.now i r))) c.args.n c.ranges.n c.has.ensures in
-    asked c.args.slot i c.in-ok-i.ensures s.rows.now s.full r (has c.args.n) c.has.result h
+    asked c.args.slot i c.in_ok-i.ensures s.rows.now s.full r (has c.args.n) c.has.result h

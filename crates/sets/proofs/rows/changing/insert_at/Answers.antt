@@ -8,4 +8,4 @@ returns c =
     let cells = c.args.cells.now in
     let last = length cells - 1 in
     let f = c.ranges.n in
-    simp to_z-of_z (inserts cells c.rotate-right.new.self c.args.p last (last + 1 - c.args.p) c.args.n c.requires refl refl (simp to_z-of_z at c.rotate-right.ensures.after))
+    simp to_z-of_z (inserts cells c.rotate_right.new.self c.args.p last (last + 1 - c.args.p) c.args.n c.requires refl refl (simp to_z-of_z at c.rotate_right.ensures.after))

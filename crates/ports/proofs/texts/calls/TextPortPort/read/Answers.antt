@@ -8,7 +8,7 @@ use Rattle.ports.proofs.texts.calls.TextPortPort.read.Goals as goal
 pub returns-in-Some : goal.returns-in-Some
 returns-in-Some c =
     let s = c.args.self.now in
-    let w = c.next-word-begins in
+    let w = c.next_word-begins in
     let f : SFits w32 c.in-Some.n = search rules in
     let e = numbers_next s.input.now s.place w.result.0 w.result.1 w.ensures.begins w.ensures.ends
     ∙ ap (λ o. leading o (numbers_in (drop w.result.1 s.input.now))) (sym c.in-Some.ensures) in
@@ -21,7 +21,7 @@ returns-in-Some c =
 pub returns-in-None : goal.returns-in-None
 returns-in-None c =
     let s = c.args.self.now in
-    let w = c.next-word-begins in
+    let w = c.next_word-begins in
     let e = numbers_next s.input.now s.place w.result.0 w.result.1 w.ensures.begins w.ensures.ends
     ∙ ap (λ o. leading o (numbers_in (drop w.result.1 s.input.now))) (sym c.in-None.ensures) in
     record {
