@@ -4,8 +4,8 @@ use Rattle.reader.specs.Nodes.{minus}
 use Rattle.reader.proofs.Values.{fits_neg, seen_neg, minus_is}
 use Rattle.reader.proofs.readers.below.Goals as goal
 
-pub overflow-cast-result : goal.overflow-cast-result
-overflow-cast-result c =
+pub overflow_cast-result : goal.overflow_cast-result
+overflow_cast-result c =
     let m = subst (λ n. n ≤ 2147483648) (sym c.magnitude.ensures) c.requires in
     subst (SFits w32) (sym (seen_neg c.magnitude.result c.from.result c.from.ensures m)) (fits_neg c.magnitude.result m)
 

@@ -11,16 +11,16 @@ pub loop-token-init : goal.loop-token-init
 loop-token-init c =
     (c.new-lexer.ensures.source, omega arith, ap (to_count c.args.source.now 0) c.new-lexer.ensures.place ∙ count_start c.args.source.now)
 
-pub returns-in-err-token : goal.returns-in-err-token
-returns-in-err-token c =
+pub returns-in_err-token : goal.returns-in_err-token
+returns-in_err-token c =
     let text = c.args.source.now in
     let i = c.loop-token.lexer.place in
     let same = c.loop-token.invariant.0 in
     let long = ap length same in
     let within = c.loop-token.lexer.within in
-    let p = err_from_is_err_and c.from-residual.result c.from-residual.ensures.1 in
-    let told = c.in-err-token.ensures.stepped.answer ∙ ap (λ s. (step s i).answer) same in
-    let answer : c.from-residual.result ≡ counted (lexed text) = p.1 ∙ ap Err p.2 ∙ count_fault text c.loop-token.count i _ (omega arith) told ∙ c.loop-token.invariant.2 in
+    let p = err_from_is_err_and c.from_residual.result c.from_residual.ensures.1 in
+    let told = c.in_err-token.ensures.stepped.answer ∙ ap (λ s. (step s i).answer) same in
+    let answer : c.from_residual.result ≡ counted (lexed text) = p.1 ∙ ap Err p.2 ∙ count_fault text c.loop-token.count i _ (omega arith) told ∙ c.loop-token.invariant.2 in
     record { answer = answer; lawful = subst (Counted text) (sym answer) (counted_lawful text) }
 
 pub returns-in-End : goal.returns-in-End
@@ -45,10 +45,10 @@ moves_on c =
     farther_on c.loop-token.lexer.source.now c.loop-token.lexer.place c.next_token.new.self.place c.in_ok-token.token.place (lexeme c.in_ok-token.token.item)
     (omega arith) (token_here c) c.in_ok-token.ensures.stepped.shortens
 
-pub overflow-add-count : goal.overflow-add-count
-overflow-add-count c =
+pub overflow_add-count : goal.overflow_add-count
+overflow_add-count c =
     let on = moves_on c in
-    let within = c.next-token.new.self.within in
+    let within = c.next_token.new.self.within in
     let few = c.loop-token.invariant.1 in
     search rules
 

@@ -6,17 +6,17 @@ use Rattle.reader.proofs.Advancing.{advance_ok, advance_err, next_place}
 use Rattle.reader.proofs.Fitting.{next_fits}
 use Rattle.reader.proofs.readers.Reader.advance.Goals as goal
 
-pub overflow-cast-self : goal.overflow-cast-self
-overflow-cast-self c =
+pub overflow_cast-self : goal.overflow_cast-self
+overflow_cast-self c =
     let lexer = c.args.self.now.lexer in
-    let p = next_place lexer.source.now lexer.place c.next-token.new.self.place _ lexer.within c.in-Ok.ensures.stepped.lawful in
+    let p = next_place lexer.source.now lexer.place c.next_token.new.self.place _ lexer.within c.in-Ok.ensures.stepped.lawful in
     let short = c.requires.sound.short in
     search rules
 
 pub returns-in-Ok : goal.returns-in-Ok
 returns-in-Ok c =
     let lexer = c.args.self.now.lexer in
-    let after = c.next-token.new.self in
+    let after = c.next_token.new.self in
     let p = next_place lexer.source.now lexer.place after.place _ lexer.within c.in-Ok.ensures.stepped.lawful in
     let behind = c.requires.sound.token c.requires.token in
     let same = c.in-Ok.ensures.source in
@@ -35,5 +35,5 @@ returns-in-Err c =
       lends = refl;
       written = (refl, refl);
       goes = tt;
-      stream = advance_err lexer.source.now lexer.place c.next-token.new.self.place c.args.self.now.place (lexeme c.args.self.now.token) c.in-Err.fault lexer.within c.requires.token c.in-Err.ensures.stepped;
+      stream = advance_err lexer.source.now lexer.place c.next_token.new.self.place c.args.self.now.place (lexeme c.args.self.now.token) c.in-Err.fault lexer.within c.requires.token c.in-Err.ensures.stepped;
     }

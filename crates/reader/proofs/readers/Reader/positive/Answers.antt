@@ -7,10 +7,10 @@ use Rattle.reader.proofs.Writing.{one_node}
 use Rattle.reader.proofs.readers.Reader.positive.Goals as goal
 
 pub above-requires : goal.above-requires
-above-requires c = taken_small _ _ (stream_of c.args.self.now) c.in-ok-number.ensures.takes
+above-requires c = taken_small _ _ (stream_of c.args.self.now) c.in_ok-number.ensures.takes
 
 pub returns : goal.returns
 returns c =
-    let told = c.in-ok-number.ensures in
+    let told = c.in_ok-number.ensures in
     one_node _ _ _ _ _ _ _ _ _ _ told.takes refl told.written told.lends told.goes c.record-item.ensures
-    (valued_as _ c.in-ok-number.number.place c.above.result (pos (magnitude (lexeme c.in-ok-number.number.item))) c.valued.ensures c.above.ensures (fits_pos _ (taken_small _ _ (stream_of c.args.self.now) told.takes))) refl
+    (valued_as _ c.in_ok-number.number.place c.above.result (pos (magnitude (lexeme c.in_ok-number.number.item))) c.valued.ensures c.above.ensures (fits_pos _ (taken_small _ _ (stream_of c.args.self.now) told.takes))) refl

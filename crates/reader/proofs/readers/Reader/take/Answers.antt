@@ -9,10 +9,10 @@ use Rattle.reader.proofs.Fitting.{held_place}
 use Rattle.reader.proofs.Taking.{taken_here, front_class_lem}
 use Rattle.reader.proofs.readers.Reader.take.Goals as goal
 
-pub returns-in-err-advance : goal.returns-in-err-advance
-returns-in-err-advance c =
+pub returns-in_err-advance : goal.returns-in_err-advance
+returns-in_err-advance c =
     let p = err_from_is_err_and c.from-residual.result c.from-residual.ensures.1 in
-    let told = c.in-err-advance.ensures in
+    let told = c.in_err-advance.ensures in
     let self = c.args.self.now in
     record {
       lends = told.lends;
@@ -24,7 +24,7 @@ returns-in-err-advance c =
 
 pub returns : goal.returns
 returns c =
-    let told = c.in-ok-advance.ensures in
+    let told = c.in_ok-advance.ensures in
     let self = c.args.self.now in
     record {
       lends = told.lends;
