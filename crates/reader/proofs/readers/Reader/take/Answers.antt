@@ -11,7 +11,7 @@ use Rattle.reader.proofs.readers.Reader.take.Goals as goal
 
 pub returns-in_err-advance : goal.returns-in_err-advance
 returns-in_err-advance c =
-    let p = err_from_is_err_and c.from-residual.result c.from-residual.ensures.1 in
+    let p = err_from_is_err_and c.from_residual.result c.from_residual.ensures.1 in
     let told = c.in_err-advance.ensures in
     let self = c.args.self.now in
     record {
