@@ -2,6 +2,7 @@
 #![tactic(auto)]
 use account::report;
 use std::fs;
+use std::process::ExitCode;
 
 const SCRIPT: &str = "script.lsd";
 
@@ -12,12 +13,12 @@ fn run(rt: &HostRuntime) -> anyhow::Result<()> {
     Ok(())
 }
 
-fn main(rt: HostRuntime) -> anyhow::Result<()> {
+fn main(rt: HostRuntime) -> anyhow::Result<ExitCode> {
     match run(&rt) {
-        Ok(()) => Ok(()),
+        Ok(()) => Ok(ExitCode::SUCCESS),
         Err(error) => {
             eprintln!(rt; "bench: {SCRIPT}: {error}")?;
-            Err(error)
+            Ok(ExitCode::FAILURE)
         }
     }
 }
