@@ -3,7 +3,7 @@ ghost use Rattle.std.specs.Prelude.{◌≡◌, ◌∷◌};
 ghost use Rattle.syntax.specs.Nodes.{operator_kind};
 ghost use Rattle.expressions.specs.Layers.{first_sign, other_signs};
 
-use grammar::classing::{AND, AT_MOST, DIVIDE, EQUAL, LESS, MINUS, OR, PLUS, TIMES};
+use reading::classes::{AND, AT_MOST, DIVIDE, EQUAL, LESS, MINUS, OR, PLUS, TIMES};
 use table::kinds::Kind;
 
 /// A layer of operators between operands of the next tighter layer.

@@ -10,7 +10,7 @@ ghost use Rattle.reading.specs.Nests.{nest_made, rule_at};
 ghost use Rattle.expressions.specs.Rules.{arguments_gram, arguments_made};
 
 use crate::layers::{Layer, operator_kind};
-use grammar::classing::{
+use reading::classes::{
     AT_MOST, CLOSE, COMMA, EQUAL, FALSE, HASH, IN, LESS, MAX, MIN, MINUS, NAME, NOT, NUMBER, OPEN,
     TRUE, among,
 };

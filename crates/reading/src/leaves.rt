@@ -8,9 +8,10 @@ ghost use Rattle.syntax.specs.Syntax.{rule, number};
 ghost use Rattle.reading.specs.States.{stream_of, Builds, shown, of_node};
 ghost use Rattle.reading.specs.Steps.{taken, jointly, blamed, variable_made, bare_made, of_variable_made, positive_made, negative_made};
 
+use crate::classes::MINUS;
 use crate::nodes::{over, titled, valued};
 use crate::readers::{Numbered, Reader};
-use grammar::classing::{LARGE, MINUS, NUMBER};
+use grammar::classing::{LARGE, NUMBER};
 use grammar::faults::GrammarFault;
 use table::kinds::Kind;
 use table::nodes::Node;

@@ -5,8 +5,9 @@ ghost use Rattle.text.specs.Tokens.{is_end, lexeme};
 ghost use Rattle.reading.specs.States.{stream_of, Lends, Written, linked_at, Recorded, Chained, Takes, shown, of_place, of_name, of_mark, of_node};
 ghost use Rattle.reading.specs.Steps.{advanced, tail_of, front_of, misfit_of, taken, opened, any_taken, token_made, name_made, mark_made};
 
+use crate::classes::among;
 use crate::readers::{Mark, Name, Numbered, Reader};
-use grammar::classing::{LARGE, NAME, among, token_class};
+use grammar::classing::{LARGE, NAME, token_class};
 use grammar::faults::GrammarFault;
 use table::nodes::Node;
 use text::places::Placed;

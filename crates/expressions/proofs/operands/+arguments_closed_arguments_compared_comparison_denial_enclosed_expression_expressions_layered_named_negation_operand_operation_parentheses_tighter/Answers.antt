@@ -33,21 +33,21 @@ tighter-returns-in-Sum t c = tighter_as c.args.allowed layer.Sum c.in-Sum.is (fr
 pub tighter-returns-in-Logic : goal.tighter-returns-in-Logic
 tighter-returns-in-Logic t c = tighter_as c.args.allowed layer.Logic c.in-Logic.is (from_negation c.args.allowed c.negation.ensures)
 
-pub layered-returns-in-err-left : goal.layered-returns-in-err-left
-layered-returns-in-err-left t c = exit_node of_node _ c.from-residual.ensures.1 (stop (begin c.args.allowed (layer_gram c.args.layer) c.args.reader.now) c.in-err-left.ensures.reads)
+pub layered-returns-in_err-left : goal.layered-returns-in_err-left
+layered-returns-in_err-left t c = exit_node of_node _ c.from-residual.ensures.1 (stop (begin c.args.allowed (layer_gram c.args.layer) c.args.reader.now) c.in_err-left.ensures.reads)
 
-pub layered-returns-in-err-left-2 : goal.layered-returns-in-err-left-2
-layered-returns-in-err-left-2 t c =
+pub layered-returns-in_err-left-2 : goal.layered-returns-in_err-left-2
+layered-returns-in_err-left-2 t c =
     let l = c.args.layer in
-    let w = c.loop-layer.invariant.0 _ _ (layered_start c.args.allowed l c.in-ok-left.ensures.reads) in
+    let w = c.loop-layer.invariant.0 _ _ (layered_start c.args.allowed l c.in_ok-left.ensures.reads) in
     let begins = layer_begins l _ _ _ _ c.signs.ensures c.class.ensures c.among.ensures ∙ c.loop-layer-test.true in
-    exit_node of_node _ c.from-residual-in-err-left-2.ensures.1 (fails (layer_item l) w begins c.in-err-left-2.ensures.reads)
+    exit_node of_node _ c.from-residual-in_err-left-2.ensures.1 (fails (layer_item l) w begins c.in_err-left-2.ensures.reads)
 
 pub layered-loop-layer-preserved : goal.layered-loop-layer-preserved
 layered-loop-layer-preserved t c =
     let l = c.args.layer in
     let begins = layer_begins l _ _ _ _ c.signs.ensures c.class.ensures c.among.ensures ∙ c.loop-layer-test.true in
-    let told = c.in-ok-left-2.ensures in
+    let told = c.in_ok-left-2.ensures in
     let below = c.loop-layer.invariant.1.1 in
     let more = told.last.1 in
     ((λ R a w. let g = c.loop-layer.invariant.0 R a w in turns (layer_item l) g begins told.reads (λ x. layer_turns c.args.allowed l g.made _ a.count g.number x)), (told.last.0, omega arith))
@@ -55,31 +55,31 @@ layered-loop-layer-preserved t c =
 pub layered-returns : goal.layered-returns
 layered-returns t c =
     let l = c.args.layer in
-    let told = c.in-ok-left.ensures in
+    let told = c.in_ok-left.ensures in
     let w = c.loop-layer.invariant.0 _ _ (layered_start c.args.allowed l told.reads) in
     let stops = layer_begins l _ _ _ _ c.signs.ensures c.class.ensures c.among.ensures ∙ c.loop-layer-test.false in
     let below = c.loop-layer.invariant.1.1 in
     let more = told.last.1 in
     record { reads = ends (layer_item l) w stops; last = (c.loop-layer.invariant.1.0, omega arith) }
 
-pub operation-returns-in-err-sign : goal.operation-returns-in-err-sign
-operation-returns-in-err-sign t c =
+pub operation-returns-in_err-sign : goal.operation-returns-in_err-sign
+operation-returns-in_err-sign t c =
     let l = c.args.layer in
-    exit_node of_node _ c.from-residual.ensures.1 (stop_mark (first_sign l) (other_signs l) (begin c.args.allowed (turn_gram l) c.args.reader.now) (take_signs c.signs.ensures c.in-err-sign.ensures))
+    exit_node of_node _ c.from-residual.ensures.1 (stop_mark (first_sign l) (other_signs l) (begin c.args.allowed (turn_gram l) c.args.reader.now) (take_signs c.signs.ensures c.in_err-sign.ensures))
 
-pub operation-returns-in-err-right : goal.operation-returns-in-err-right
-operation-returns-in-err-right t c =
+pub operation-returns-in_err-right : goal.operation-returns-in_err-right
+operation-returns-in_err-right t c =
     let l = c.args.layer in
-    let s = past_mark (first_sign l) (other_signs l) (begin c.args.allowed (turn_gram l) c.args.reader.now) (take_signs c.signs.ensures c.in-ok-sign.ensures) in
-    exit_node of_node _ c.from-residual-in-err-right.ensures.1 (stop_last s.more c.in-err-right.ensures.reads)
+    let s = past_mark (first_sign l) (other_signs l) (begin c.args.allowed (turn_gram l) c.args.reader.now) (take_signs c.signs.ensures c.in_ok-sign.ensures) in
+    exit_node of_node _ c.from-residual-in_err-right.ensures.1 (stop_last s.more c.in_err-right.ensures.reads)
 
 pub operation-returns : goal.operation-returns
 unfolding Tree turn_made pair
 operation-returns t c =
     let l = c.args.layer in
-    let s = past_mark (first_sign l) (other_signs l) (begin c.args.allowed (turn_gram l) c.args.reader.now) (take_signs c.signs.ensures c.in-ok-sign.ensures) in
-    let u = only s.more c.in-ok-right.ensures.reads in
-    node u.whole c.record.ensures (over_as _ _ c.over.ensures (c.operator-kind.ensures ∙ ap operator_kind s.number) s.place refl u.number refl) refl
+    let s = past_mark (first_sign l) (other_signs l) (begin c.args.allowed (turn_gram l) c.args.reader.now) (take_signs c.signs.ensures c.in_ok-sign.ensures) in
+    let u = only s.more c.in_ok-right.ensures.reads in
+    node u.whole c.record.ensures (over_as _ _ c.over.ensures (c.operator_kind.ensures ∙ ap operator_kind s.number) s.place refl u.number refl) refl
 
 -- ---- negations and comparisons
 
@@ -91,82 +91,82 @@ pub negation-returns-else-class-eq-NOT : goal.negation-returns-else-class-eq-NOT
 unfolding Tree negation_made inject_last right_tree
 negation-returns-else-class-eq-NOT t c = as_last c.args.allowed negation (negation_made (inner_made c.args.allowed)) (none_of _ (47 ∷ []) ((λ e. c.if-class-eq-NOT.false (c.class.ensures ∙ e)), tt)) (λ x n. refl) c.comparison.ensures
 
-pub denial-returns-in-err-place : goal.denial-returns-in-err-place
-denial-returns-in-err-place t c = exit_node of_node _ c.from-residual.ensures.1 (not_opened c.args.allowed 47 negated c.in-err-place.ensures.takes)
+pub denial-returns-in_err-place : goal.denial-returns-in_err-place
+denial-returns-in_err-place t c = exit_node of_node _ c.from-residual.ensures.1 (not_opened c.args.allowed 47 negated c.in_err-place.ensures.takes)
 
-pub denial-returns-in-err-inner : goal.denial-returns-in-err-inner
-denial-returns-in-err-inner t c =
-    let o = c.in-ok-place.ensures in
-    exit_node of_node _ c.from-residual-in-err-inner.ensures.1 (denial_stop c.args.allowed o.allows o.takes c.in-err-inner.ensures.reads)
+pub denial-returns-in_err-inner : goal.denial-returns-in_err-inner
+denial-returns-in_err-inner t c =
+    let o = c.in_ok-place.ensures in
+    exit_node of_node _ c.from-residual-in_err-inner.ensures.1 (denial_stop c.args.allowed o.allows o.takes c.in_err-inner.ensures.reads)
 
 pub denial-returns : goal.denial-returns
 denial-returns t c =
-    let o = c.in-ok-place.ensures in
-    denial_ok c.args.allowed o.allows o.takes c.in-ok-inner.ensures.reads c.record.ensures c.over.ensures
+    let o = c.in_ok-place.ensures in
+    denial_ok c.args.allowed o.allows o.takes c.in_ok-inner.ensures.reads c.record.ensures c.over.ensures
 
-pub comparison-returns-in-err-left : goal.comparison-returns-in-err-left
-comparison-returns-in-err-left t c = exit_node of_node _ c.from-residual.ensures.1 (stop (begin c.args.allowed comparison c.args.reader.now) (to_sum c.args.allowed c.in-err-left.ensures).reads)
+pub comparison-returns-in_err-left : goal.comparison-returns-in_err-left
+comparison-returns-in_err-left t c = exit_node of_node _ c.from-residual.ensures.1 (stop (begin c.args.allowed comparison c.args.reader.now) (to_sum c.args.allowed c.in_err-left.ensures).reads)
 
-pub comparison-returns-in-err-left-2 : goal.comparison-returns-in-err-left-2
-comparison-returns-in-err-left-2 t c =
-    let w = c.loop-reader.invariant.0 _ _ (comparison_start c.args.allowed (to_sum c.args.allowed c.in-ok-left.ensures).reads) in
+pub comparison-returns-in_err-left-2 : goal.comparison-returns-in_err-left-2
+comparison-returns-in_err-left-2 t c =
+    let w = c.loop-reader.invariant.0 _ _ (comparison_start c.args.allowed (to_sum c.args.allowed c.in_ok-left.ensures).reads) in
     let begins = ap (among (45 ∷ (46 ∷ (32 ∷ (25 ∷ []))))) (sym c.class.ensures) ∙ sym c.among.ensures ∙ c.loop-reader-test.true in
-    exit_node of_node _ c.from-residual-in-err-left-2.ensures.1 (fails compared_item w begins c.in-err-left-2.ensures.reads)
+    exit_node of_node _ c.from-residual-in_err-left-2.ensures.1 (fails compared_item w begins c.in_err-left-2.ensures.reads)
 
 pub comparison-loop-reader-preserved : goal.comparison-loop-reader-preserved
 comparison-loop-reader-preserved t c =
     let begins = ap (among (45 ∷ (46 ∷ (32 ∷ (25 ∷ []))))) (sym c.class.ensures) ∙ sym c.among.ensures ∙ c.loop-reader-test.true in
-    let told = c.in-ok-left-2.ensures in
+    let told = c.in_ok-left-2.ensures in
     let below = c.loop-reader.invariant.1.1 in
     let more = told.last.1 in
     ((λ R a w. let g = c.loop-reader.invariant.0 R a w in turns compared_item g begins told.reads (λ x. compared_turns c.args.allowed g.made _ a.count g.number x)), (told.last.0, omega arith))
 
 pub comparison-returns : goal.comparison-returns
 comparison-returns t c =
-    let told = to_sum c.args.allowed c.in-ok-left.ensures in
+    let told = to_sum c.args.allowed c.in_ok-left.ensures in
     let w = c.loop-reader.invariant.0 _ _ (comparison_start c.args.allowed told.reads) in
     let stops = ap (among (45 ∷ (46 ∷ (32 ∷ (25 ∷ []))))) (sym c.class.ensures) ∙ sym c.among.ensures ∙ c.loop-reader-test.false in
     let below = c.loop-reader.invariant.1.1 in
     let more = told.last.1 in
     record { reads = ends compared_item w stops; last = (c.loop-reader.invariant.1.0, omega arith) }
 
-pub compared-returns-in-err-place : goal.compared-returns-in-err-place
-compared-returns-in-err-place t c =
+pub compared-returns-in_err-place : goal.compared-returns-in_err-place
+compared-returns-in_err-place t c =
     let none = ap (among (45 ∷ (46 ∷ (32 ∷ [])))) (sym c.class.ensures) ∙ sym c.among.ensures ∙ c.if-not-among.true in
-    exit_node of_node _ c.from-residual.ensures.1 (stop_token (on_last (begin c.args.allowed compared c.args.reader.now) none) c.in-err-place.ensures)
+    exit_node of_node _ c.from-residual.ensures.1 (stop_token (on_last (begin c.args.allowed compared c.args.reader.now) none) c.in_err-place.ensures)
 
-pub compared-returns-in-err-right : goal.compared-returns-in-err-right
-compared-returns-in-err-right t c =
+pub compared-returns-in_err-right : goal.compared-returns-in_err-right
+compared-returns-in_err-right t c =
     let none = ap (among (45 ∷ (46 ∷ (32 ∷ [])))) (sym c.class.ensures) ∙ sym c.among.ensures ∙ c.if-not-among.true in
-    let s = past_token (on_last (begin c.args.allowed compared c.args.reader.now) none) c.in-ok-place.ensures in
-    exit_node of_node _ c.from-residual-in-err-right.ensures.1 (stop_last s.more (as_leaf_lem c.args.allowed 51 c.in-err-right.ensures.reads))
+    let s = past_token (on_last (begin c.args.allowed compared c.args.reader.now) none) c.in_ok-place.ensures in
+    exit_node of_node _ c.from-residual-in_err-right.ensures.1 (stop_last s.more (as_leaf_lem c.args.allowed 51 c.in_err-right.ensures.reads))
 
 pub compared-returns-then-not-among : goal.compared-returns-then-not-among
 unfolding Tree compared_made_over pair leaf_made inject_last right_tree
 compared-returns-then-not-among t c =
     let none = ap (among (45 ∷ (46 ∷ (32 ∷ [])))) (sym c.class.ensures) ∙ sym c.among.ensures ∙ c.if-not-among.true in
-    let s = past_token (on_last (begin c.args.allowed compared c.args.reader.now) none) c.in-ok-place.ensures in
-    let u = only s.more (as_leaf_lem c.args.allowed 51 c.in-ok-right.ensures.reads) in
+    let s = past_token (on_last (begin c.args.allowed compared c.args.reader.now) none) c.in_ok-place.ensures in
+    let u = only s.more (as_leaf_lem c.args.allowed 51 c.in_ok-right.ensures.reads) in
     node u.whole c.record.ensures (over_is kind.In c.over.ensures s.place refl u.number refl) refl
 
-pub compared-returns-in-err-sign : goal.compared-returns-in-err-sign
-compared-returns-in-err-sign t c =
+pub compared-returns-in_err-sign : goal.compared-returns-in_err-sign
+compared-returns-in_err-sign t c =
     let some = ap (among (45 ∷ (46 ∷ (32 ∷ [])))) (sym c.class.ensures) ∙ sym c.among.ensures ∙ c.if-not-among.false in
-    exit_node of_node _ c.from-residual-in-err-sign.ensures.1 (stop_mark 45 (46 ∷ (32 ∷ [])) (on_first (begin c.args.allowed compared c.args.reader.now) some) c.in-err-sign.ensures)
+    exit_node of_node _ c.from-residual-in_err-sign.ensures.1 (stop_mark 45 (46 ∷ (32 ∷ [])) (on_first (begin c.args.allowed compared c.args.reader.now) some) c.in_err-sign.ensures)
 
-pub compared-returns-in-err-right-2 : goal.compared-returns-in-err-right-2
-compared-returns-in-err-right-2 t c =
+pub compared-returns-in_err-right-2 : goal.compared-returns-in_err-right-2
+compared-returns-in_err-right-2 t c =
     let some = ap (among (45 ∷ (46 ∷ (32 ∷ [])))) (sym c.class.ensures) ∙ sym c.among.ensures ∙ c.if-not-among.false in
-    let s = past_mark 45 (46 ∷ (32 ∷ [])) (on_first (begin c.args.allowed compared c.args.reader.now) some) c.in-ok-sign.ensures in
-    exit_node of_node _ c.from-residual-in-err-right-2.ensures.1 (stop_last s.more (to_sum c.args.allowed c.in-err-right-2.ensures).reads)
+    let s = past_mark 45 (46 ∷ (32 ∷ [])) (on_first (begin c.args.allowed compared c.args.reader.now) some) c.in_ok-sign.ensures in
+    exit_node of_node _ c.from-residual-in_err-right-2.ensures.1 (stop_last s.more (to_sum c.args.allowed c.in_err-right-2.ensures).reads)
 
 pub compared-returns : goal.compared-returns
 unfolding Tree compared_made_over pair left_tree
 compared-returns t c =
     let some = ap (among (45 ∷ (46 ∷ (32 ∷ [])))) (sym c.class.ensures) ∙ sym c.among.ensures ∙ c.if-not-among.false in
-    let s = past_mark 45 (46 ∷ (32 ∷ [])) (on_first (begin c.args.allowed compared c.args.reader.now) some) c.in-ok-sign.ensures in
-    let u = only s.more (to_sum c.args.allowed c.in-ok-right-2.ensures).reads in
-    node u.whole c.record-2.ensures (over_as _ _ c.over-2.ensures (c.operator-kind.ensures ∙ ap operator_kind s.number) s.place refl u.number refl) refl
+    let s = past_mark 45 (46 ∷ (32 ∷ [])) (on_first (begin c.args.allowed compared c.args.reader.now) some) c.in_ok-sign.ensures in
+    let u = only s.more (to_sum c.args.allowed c.in_ok-right-2.ensures).reads in
+    node u.whole c.record-2.ensures (over_as _ _ c.over-2.ensures (c.operator_kind.ensures ∙ ap operator_kind s.number) s.place refl u.number refl) refl
 
 -- ---- operands
 
@@ -192,69 +192,69 @@ operand-returns-in-51 t c = as_branch c.args.allowed 51 operand (operand_made (i
 
 pub operand-returns-in-23 : goal.operand-returns-in-23
 unfolding Tree of_variable_made operand_made inject inject_by left_tree right_tree
-operand-returns-in-23 t c = as_branch c.args.allowed 23 operand (operand_made (inner_made c.args.allowed)) (sym c.class.ensures ∙ c.in-23.is) (λ x n. refl) (c.of-variable.ensures c.args.allowed)
+operand-returns-in-23 t c = as_branch c.args.allowed 23 operand (operand_made (inner_made c.args.allowed)) (sym c.class.ensures ∙ c.in-23.is) (λ x n. refl) (c.of_variable.ensures c.args.allowed)
 
 pub operand-returns-in-24 : goal.operand-returns-in-24
 unfolding Tree of_variable_made operand_made inject inject_by left_tree right_tree
-operand-returns-in-24 t c = as_branch c.args.allowed 24 operand (operand_made (inner_made c.args.allowed)) (sym c.class.ensures ∙ c.in-24.is) (λ x n. refl) (c.of-variable-in-24.ensures c.args.allowed)
+operand-returns-in-24 t c = as_branch c.args.allowed 24 operand (operand_made (inner_made c.args.allowed)) (sym c.class.ensures ∙ c.in-24.is) (λ x n. refl) (c.of_variable-in-24.ensures c.args.allowed)
 
 pub operand-returns-in-44 : goal.operand-returns-in-44
 unfolding Tree of_variable_made operand_made inject inject_by left_tree right_tree
-operand-returns-in-44 t c = as_branch c.args.allowed 44 operand (operand_made (inner_made c.args.allowed)) (sym c.class.ensures ∙ c.in-44.is) (λ x n. refl) (c.of-variable-in-44.ensures c.args.allowed)
+operand-returns-in-44 t c = as_branch c.args.allowed 44 operand (operand_made (inner_made c.args.allowed)) (sym c.class.ensures ∙ c.in-44.is) (λ x n. refl) (c.of_variable-in-44.ensures c.args.allowed)
 
-pub operand-returns-in-default : goal.operand-returns-in-default
+pub operand-returns-in_default : goal.operand-returns-in_default
 unfolding Tree operand_made nest_made inject_last right_tree
-operand-returns-in-default t c =
+operand-returns-in_default t c =
     let e = c.class.ensures in
     as_last c.args.allowed operand (operand_made (inner_made c.args.allowed))
     (none_of _ (52 ∷ (41 ∷ (21 ∷ (22 ∷ (51 ∷ (23 ∷ (24 ∷ (44 ∷ [])))))))) ((λ h. search rules), ((λ h. search rules), ((λ h. search rules), ((λ h. search rules), ((λ h. search rules), ((λ h. search rules), ((λ h. search rules), ((λ h. search rules), tt)))))))))
     (λ x n. refl) c.parentheses.ensures
 
-pub named-returns-in-err-name : goal.named-returns-in-err-name
-named-returns-in-err-name t c = exit_node of_node _ c.from-residual.ensures.1 (stop_token (begin c.args.allowed named c.args.reader.now) c.in-err-name.ensures)
+pub named-returns-in_err-name : goal.named-returns-in_err-name
+named-returns-in_err-name t c = exit_node of_node _ c.from-residual.ensures.1 (stop_token (begin c.args.allowed named c.args.reader.now) c.in_err-name.ensures)
 
 pub named-returns-then-class-ne-OPEN : goal.named-returns-then-class-ne-OPEN
 unfolding Tree named_made pair leaf_made inject_last right_tree nothing
 named-returns-then-class-ne-OPEN t c =
-    let s = past_name (begin c.args.allowed named c.args.reader.now) c.in-ok-name.ensures in
+    let s = past_name (begin c.args.allowed named c.args.reader.now) c.in_ok-name.ensures in
     let w = on_nil (on_last s.more (none_of _ (38 ∷ []) ((λ e. c.if-class-ne-OPEN.true (c.class.ensures ∙ e)), tt))) in
     node w c.record.ensures (titled_is kind.Variable c.titled.ensures s.number s.place refl refl refl refl) refl
 
-pub named-returns-in-err-first : goal.named-returns-in-err-first
-named-returns-in-err-first t c =
-    let s = past_name (begin c.args.allowed named c.args.reader.now) c.in-ok-name.ensures in
-    exit_node of_node _ c.from-residual-in-err-first.ensures.1 (stop_last (on_branch 38 s.more (sym c.class.ensures ∙ c.if-class-ne-OPEN.false)) c.in-err-first.ensures)
+pub named-returns-in_err-first : goal.named-returns-in_err-first
+named-returns-in_err-first t c =
+    let s = past_name (begin c.args.allowed named c.args.reader.now) c.in_ok-name.ensures in
+    exit_node of_node _ c.from-residual-in_err-first.ensures.1 (stop_last (on_branch 38 s.more (sym c.class.ensures ∙ c.if-class-ne-OPEN.false)) c.in_err-first.ensures)
 
 pub named-returns : goal.named-returns
 unfolding Tree named_made nest_made pair leaf_made inject inject_by left_tree
 named-returns t c =
-    let s = past_name (begin c.args.allowed named c.args.reader.now) c.in-ok-name.ensures in
-    let u = only (on_branch 38 s.more (sym c.class.ensures ∙ c.if-class-ne-OPEN.false)) c.in-ok-first.ensures in
+    let s = past_name (begin c.args.allowed named c.args.reader.now) c.in_ok-name.ensures in
+    let u = only (on_branch 38 s.more (sym c.class.ensures ∙ c.if-class-ne-OPEN.false)) c.in_ok-first.ensures in
     node u.whole c.record-2.ensures (titled_is kind.Call c.titled-2.ensures s.number s.place u.number refl refl refl) refl
 
 -- ---- arguments
 
-pub arguments-returns-in-err--place : goal.arguments-returns-in-err--place
-arguments-returns-in-err--place t c = exit of_list _ c.from-residual.ensures.1 (not_opened c.args.allowed 38 arguments c.in-err--place.ensures.takes)
+pub arguments-returns-in_err--place : goal.arguments-returns-in_err--place
+arguments-returns-in_err--place t c = exit of_list _ c.from-residual.ensures.1 (not_opened c.args.allowed 38 arguments c.in_err--place.ensures.takes)
 
 pub arguments-returns : goal.arguments-returns
 arguments-returns t c =
-    let o = c.in-ok--place.ensures in
-    opens c.args.allowed 38 arguments o.allows o.takes (c.closed-arguments.ensures c.in-ok--place.-place)
+    let o = c.in_ok--place.ensures in
+    opens c.args.allowed 38 arguments o.allows o.takes (c.closed_arguments.ensures c.in_ok--place.-place)
 
-pub closed-arguments-returns-in-err-first : goal.closed-arguments-returns-in-err-first
-closed-arguments-returns-in-err-first t c = λ p. exit of_list _ c.from-residual.ensures.1 (stop (begin c.args.allowed (rule arguments) c.args.reader.now) c.in-err-first.ensures)
+pub closed_arguments-returns-in_err-first : goal.closed_arguments-returns-in_err-first
+closed_arguments-returns-in_err-first t c = λ p. exit of_list _ c.from-residual.ensures.1 (stop (begin c.args.allowed (rule arguments) c.args.reader.now) c.in_err-first.ensures)
 
-pub closed-arguments-returns-in-err-take : goal.closed-arguments-returns-in-err-take
-closed-arguments-returns-in-err-take t c = λ p.
-    let s = first (begin c.args.allowed (rule arguments) c.args.reader.now) c.in-ok-first.ensures in
-    exit of_list _ c.from-residual-in-err-take.ensures.1 (stop_last_token s.more c.in-err-take.ensures)
+pub closed_arguments-returns-in_err-take : goal.closed_arguments-returns-in_err-take
+closed_arguments-returns-in_err-take t c = λ p.
+    let s = first (begin c.args.allowed (rule arguments) c.args.reader.now) c.in_ok-first.ensures in
+    exit of_list _ c.from-residual-in_err-take.ensures.1 (stop_last_token s.more c.in_err-take.ensures)
 
-pub closed-arguments-returns : goal.closed-arguments-returns
-closed-arguments-returns t c = λ p.
+pub closed_arguments-returns : goal.closed_arguments-returns
+closed_arguments-returns t c = λ p.
     let a = c.args.reader.now in
-    let s = first (begin c.args.allowed (rule arguments) a) c.in-ok-first.ensures in
-    let u = closed_token s.more c.in-ok-take.ensures in
+    let s = first (begin c.args.allowed (rule arguments) a) c.in_ok-first.ensures in
+    let u = closed_token s.more c.in_ok-take.ensures in
     pass u.whole ((λ i. record { nodes = (arguments_made c.args.allowed s.tree a.count).nodes; number = s.number i; place = s.place i }) ∙ arguments_rule c.args.allowed p a.count s.tree u.tree)
 
 pub expressions-returns-then-not-among : goal.expressions-returns-then-not-among
@@ -263,16 +263,16 @@ expressions-returns-then-not-among t c =
     let none = ap (among (47 ∷ (52 ∷ (41 ∷ (21 ∷ (22 ∷ (51 ∷ (23 ∷ (24 ∷ (44 ∷ (38 ∷ []))))))))))) (sym c.class.ensures) ∙ sym c.among.ensures ∙ c.if-not-among.true in
     pass (on_nil (on_last (begin c.args.allowed arguments_gram c.args.reader.now) none)) refl
 
-pub expressions-returns-in-err-first : goal.expressions-returns-in-err-first
-expressions-returns-in-err-first t c =
+pub expressions-returns-in_err-first : goal.expressions-returns-in_err-first
+expressions-returns-in_err-first t c =
     let some = ap (among (47 ∷ (52 ∷ (41 ∷ (21 ∷ (22 ∷ (51 ∷ (23 ∷ (24 ∷ (44 ∷ (38 ∷ []))))))))))) (sym c.class.ensures) ∙ sym c.among.ensures ∙ c.if-not-among.false in
-    exit of_list _ c.from-residual.ensures.1 (stop (on_first (begin c.args.allowed arguments_gram c.args.reader.now) some) c.in-err-first.ensures.reads)
+    exit of_list _ c.from-residual.ensures.1 (stop (on_first (begin c.args.allowed arguments_gram c.args.reader.now) some) c.in_err-first.ensures.reads)
 
-pub expressions-returns-in-err-take : goal.expressions-returns-in-err-take
-expressions-returns-in-err-take t c = ?
+pub expressions-returns-in_err-take : goal.expressions-returns-in_err-take
+expressions-returns-in_err-take t c = ?
 
-pub expressions-returns-in-err-next : goal.expressions-returns-in-err-next
-expressions-returns-in-err-next t c = ?
+pub expressions-returns-in_err-next : goal.expressions-returns-in_err-next
+expressions-returns-in_err-next t c = ?
 
 pub expressions-loop-reader-preserved : goal.expressions-loop-reader-preserved
 expressions-loop-reader-preserved t c = ?
@@ -282,29 +282,29 @@ expressions-returns t c = ?
 
 -- ---- parentheses
 
-pub parentheses-returns-in-err--place : goal.parentheses-returns-in-err--place
-parentheses-returns-in-err--place t c = exit_node of_node _ c.from-residual.ensures.1 (not_opened c.args.allowed 38 parentheses c.in-err--place.ensures.takes)
+pub parentheses-returns-in_err--place : goal.parentheses-returns-in_err--place
+parentheses-returns-in_err--place t c = exit_node of_node _ c.from-residual.ensures.1 (not_opened c.args.allowed 38 parentheses c.in_err--place.ensures.takes)
 
 pub parentheses-returns : goal.parentheses-returns
 parentheses-returns t c =
-    let o = c.in-ok--place.ensures in
-    opens_node c.args.allowed 38 parentheses o.allows o.takes (c.enclosed.ensures c.in-ok--place.-place)
+    let o = c.in_ok--place.ensures in
+    opens_node c.args.allowed 38 parentheses o.allows o.takes (c.enclosed.ensures c.in_ok--place.-place)
 
-pub enclosed-returns-in-err-inner : goal.enclosed-returns-in-err-inner
-enclosed-returns-in-err-inner t c = λ p. exit_node of_node _ c.from-residual.ensures.1 (stop (begin c.args.allowed (rule parentheses) c.args.reader.now) c.in-err-inner.ensures.reads)
+pub enclosed-returns-in_err-inner : goal.enclosed-returns-in_err-inner
+enclosed-returns-in_err-inner t c = λ p. exit_node of_node _ c.from-residual.ensures.1 (stop (begin c.args.allowed (rule parentheses) c.args.reader.now) c.in_err-inner.ensures.reads)
 
-pub enclosed-returns-in-err-take : goal.enclosed-returns-in-err-take
-enclosed-returns-in-err-take t c = λ p.
-    let s = first (begin c.args.allowed (rule parentheses) c.args.reader.now) c.in-ok-inner.ensures.reads in
-    exit_node of_node _ c.from-residual-in-err-take.ensures.1 (stop_last_token s.more c.in-err-take.ensures)
+pub enclosed-returns-in_err-take : goal.enclosed-returns-in_err-take
+enclosed-returns-in_err-take t c = λ p.
+    let s = first (begin c.args.allowed (rule parentheses) c.args.reader.now) c.in_ok-inner.ensures.reads in
+    exit_node of_node _ c.from-residual-in_err-take.ensures.1 (stop_last_token s.more c.in_err-take.ensures)
 
 pub enclosed-returns : goal.enclosed-returns
 unfolding Tree rule_made pair
 enclosed-returns t c = λ p.
     let a = c.args.reader.now in
-    let told = c.in-ok-inner.ensures in
+    let told = c.in_ok-inner.ensures in
     let s = first (begin c.args.allowed (rule parentheses) a) told.reads in
-    let taken = c.in-ok-take.ensures in
+    let taken = c.in_ok-take.ensures in
     let u = closed_token s.more taken in
     let same = taken.steps.0 in
     let more = told.last.1 in

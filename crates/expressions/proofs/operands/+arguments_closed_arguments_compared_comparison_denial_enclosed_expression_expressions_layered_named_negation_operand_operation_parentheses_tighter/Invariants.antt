@@ -6,8 +6,8 @@ use Rattle.expressions.proofs.operands.+arguments_closed_arguments_compared_comp
 abbrev pub decreases-arguments : goal.decreases-arguments
 decreases-arguments l = 32 * l.allowed + 1
 
-abbrev pub decreases-closed-arguments : goal.decreases-closed-arguments
-decreases-closed-arguments l = 32 * l.allowed + 18
+abbrev pub decreases-closed_arguments : goal.decreases-closed_arguments
+decreases-closed_arguments l = 32 * l.allowed + 18
 
 abbrev pub decreases-compared : goal.decreases-compared
 decreases-compared l = 32 * l.allowed + 10

@@ -6,35 +6,35 @@ use Rattle.reading.proofs.Advancing.{advance_ok, advance_err, next_place, refuse
 use Rattle.reading.proofs.Fitting.{next_fits}
 use Rattle.reading.proofs.readers.Reader.advance.Goals as goal
 
-pub overflow-cast-self : goal.overflow-cast-self
-overflow-cast-self c =
+pub overflow_cast-self : goal.overflow_cast-self
+overflow_cast-self c =
     let lexer = c.args.self.now.lexer in
-    let p = next_place lexer.source.now lexer.place c.next-token.new.self.place _ lexer.within c.in-Ok.ensures.stepped.lawful in
+    let p = next_place lexer.source.now lexer.place c.next_token.new.self.place _ lexer.within c.in-Ok.ensures.stepped.lawful in
     let short = c.args.self.now.short in
     search rules
 
-pub invariant-of-self : goal.invariant-of-self
-invariant-of-self c =
+pub invariant_of-self : goal.invariant_of-self
+invariant_of-self c =
     let self = c.args.self.now in
     let lexer = self.lexer in
-    let after = c.next-token.new.self in
+    let after = c.next_token.new.self in
     let p = next_place lexer.source.now lexer.place after.place _ lexer.within c.in-Ok.ensures.stepped.lawful in
     let behind = self.onward c.requires in
     let few = self.few in
     (subst (λ s. length s.now ≤ 16384) (sym c.in-Ok.ensures.source) self.short, (omega arith, (p.1, (p.3, (next_fits lexer.place after.place _ _ c.in-Ok.ensures.stepped.lawful, tt)))))
 
-pub invariant-of-self-in-Err· : goal.invariant-of-self-in-Err·
-invariant-of-self-in-Err· c =
+pub invariant_of-self-in-Err· : goal.invariant_of-self-in-Err·
+invariant_of-self-in-Err· c =
     let self = c.args.self.now in
     let lexer = self.lexer in
-    let later = refused_place lexer.source.now lexer.place c.next-token.new.self.place _ c.in-Err.ensures.stepped.lawful in
+    let later = refused_place lexer.source.now lexer.place c.next_token.new.self.place _ c.in-Err.ensures.stepped.lawful in
     let behind = self.onward c.requires in
     (subst (λ s. length s.now ≤ 16384) (sym c.in-Err.ensures.source) self.short, (self.few, (omega arith, ((λ _. omega arith), (self.fits, tt)))))
 
 pub returns-in-Ok : goal.returns-in-Ok
 returns-in-Ok c =
     let lexer = c.args.self.now.lexer in
-    let after = c.next-token.new.self in
+    let after = c.next_token.new.self in
     let p = next_place lexer.source.now lexer.place after.place _ lexer.within c.in-Ok.ensures.stepped.lawful in
     let behind = c.args.self.now.onward c.requires in
     let same = c.in-Ok.ensures.source in
@@ -53,5 +53,5 @@ returns-in-Err c =
       lends = refl;
       written = (refl, refl);
       onward = tt;
-      stream = advance_err lexer.source.now lexer.place c.next-token.new.self.place c.args.self.now.place (lexeme c.args.self.now.token) c.in-Err.fault lexer.within c.requires c.in-Err.ensures.stepped;
+      stream = advance_err lexer.source.now lexer.place c.next_token.new.self.place c.args.self.now.place (lexeme c.args.self.now.token) c.in-Err.fault lexer.within c.requires c.in-Err.ensures.stepped;
     }

@@ -4,10 +4,10 @@ use Rattle.reading.specs.States.{of_node}
 use Rattle.reading.proofs.Sequences.{exit_node, refused_as, single, silent_token, node}
 use Rattle.reading.proofs.readers.Reader.bare.Goals as goal
 
-pub returns-in-err-place : goal.returns-in-err-place
-returns-in-err-place c = exit_node of_node _ c.from-residual.ensures.1 (refused_as c.in-err-place.ensures)
+pub returns-in_err-place : goal.returns-in_err-place
+returns-in_err-place c = exit_node of_node _ c.from-residual.ensures.1 (refused_as c.in_err-place.ensures)
 
 pub returns : goal.returns
 returns c =
-    let s = single (silent_token c.args.class) c.in-ok-place.ensures in
+    let s = single (silent_token c.args.class) c.in_ok-place.ensures in
     node s.whole c.record.ensures (c.bare.ensures ∙ ap (bare c.args.kind) s.place) refl

@@ -3,5 +3,5 @@ use Rattle.reading.proofs.Sequences.{exit_token}
 use Rattle.reading.proofs.Taking.{name_refused}
 use Rattle.reading.proofs.readers.Reader.name.Goals as goal
 
-pub returns-in-err-place : goal.returns-in-err-place
-returns-in-err-place c = exit_token of_name _ c.from-residual.ensures.1 (name_refused _ _ _ c.in-err-place.ensures)
+pub returns-in_err-place : goal.returns-in_err-place
+returns-in_err-place c = exit_token of_name _ c.from-residual.ensures.1 (name_refused _ _ _ c.in_err-place.ensures)

@@ -12,12 +12,12 @@ returns-in-Err c =
     let self = c.args.self.now in
     record { reads = refuse_as told.reads (joint_refused (lexeme self.token) self.place _ c.in-Err.fault (refused told.reads) ∙ ap Err (sym c.blamed.ensures)); last = tt }
 
-pub returns-in-err-one-of : goal.returns-in-err-one-of
-returns-in-err-one-of c = exit_node of_node _ c.from-residual.ensures.1 (not_joined c.in-Ok.ensures c.in-err-one-of.ensures)
+pub returns-in_err-one_of : goal.returns-in_err-one_of
+returns-in_err-one_of c = exit_node of_node _ c.from-residual.ensures.1 (not_joined c.in-Ok.ensures c.in_err-one_of.ensures)
 
 pub returns : goal.returns
 returns c =
-    let j = joined c.in-Ok.ensures c.in-ok-one-of.ensures in
+    let j = joined c.in-Ok.ensures c.in_ok-one_of.ensures in
     let is = c.magnitude-magnitude.ensures ∙ j.magnitude_is in
     let after = c.take.new.self in
     let small = magnitude_fits (lexeme after.token) after.fits in

@@ -8,12 +8,12 @@ use Rattle.reading.proofs.Sequences.{exit_node, refused_as, single, silent_token
 use Rattle.reading.proofs.Values.{token_is, positive_value}
 use Rattle.reading.proofs.readers.Reader.positive.Goals as goal
 
-pub returns-in-err-place : goal.returns-in-err-place
-returns-in-err-place c = exit_node of_node _ c.from-residual.ensures.1 (refused_as c.in-err-place.ensures)
+pub returns-in_err-place : goal.returns-in_err-place
+returns-in_err-place c = exit_node of_node _ c.from-residual.ensures.1 (refused_as c.in_err-place.ensures)
 
 pub returns : goal.returns
 returns c =
-    let s = single (silent_token 52) c.in-ok-place.ensures in
+    let s = single (silent_token 52) c.in_ok-place.ensures in
     let self = c.args.self.now in
     let is = token_is 52 (lexeme self.token) self.place _ s.tree _ s.read in
     node s.whole c.record.ensures (valued_is c.valued.ensures s.place (positive_value _ (lexeme self.token) c.magnitude-magnitude.ensures (ap (λ (x : Placed Lexeme). eqb (class_of x.item) 52) (sym is) ∙ s.tree.1) ∙ ap (λ (x : Placed Lexeme). pos (magnitude x.item)) (sym is))) refl

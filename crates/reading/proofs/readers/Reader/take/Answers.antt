@@ -4,5 +4,5 @@ use Rattle.reading.proofs.readers.Reader.take.Goals as goal
 
 pub returns : goal.returns
 returns c =
-    let told = c.in-ok-advance.ensures in
-    took _ _ _ (sym c.if-is-end.ensures) (sym c.class.ensures ∙ c.if-class.false) told.lends told.written told.onward told.stream
+    let told = c.in_ok-advance.ensures in
+    took _ _ _ (sym c.if-is_end.ensures) (sym c.class.ensures ∙ c.if-class.false) told.lends told.written told.onward told.stream

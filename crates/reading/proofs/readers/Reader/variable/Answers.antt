@@ -4,10 +4,10 @@ use Rattle.reading.specs.States.{of_node}
 use Rattle.reading.proofs.Sequences.{exit_node, refused_as, single, silent_name, node, titled_is}
 use Rattle.reading.proofs.readers.Reader.variable.Goals as goal
 
-pub returns-in-err-name : goal.returns-in-err-name
-returns-in-err-name c = exit_node of_node _ c.from-residual.ensures.1 (refused_as c.in-err-name.ensures)
+pub returns-in_err-name : goal.returns-in_err-name
+returns-in_err-name c = exit_node of_node _ c.from-residual.ensures.1 (refused_as c.in_err-name.ensures)
 
 pub returns : goal.returns
 returns c =
-    let s = single silent_name c.in-ok-name.ensures in
+    let s = single silent_name c.in_ok-name.ensures in
     node s.whole c.record.ensures (titled_is kind.Variable c.titled.ensures s.number s.place refl refl refl refl) refl
