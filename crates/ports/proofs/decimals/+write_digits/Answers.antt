@@ -14,8 +14,8 @@ returns-then-n-lt-RADIX t c =
     let h : 0 < length c.args.rest.now = omega (arith, decimal_nonempty c.args.n s) in
     record { count = sym (ap length d); short = omega arith; bytes = rw d (set_split c.args.rest.now 0 (48 + c.args.n) h) }
 
-pub write-digits-k-requires : goal.write-digits-k-requires
-write-digits-k-requires t c =
+pub write_digits-k-requires : goal.write_digits-k-requires
+write_digits-k-requires t c =
     let s : c.args.n < 2 ^ 64 = search rules in
     (search rules, omega (arith, longer c.args.n c.if-n-lt-RADIX.false s))
 
@@ -28,12 +28,12 @@ pub returns : goal.returns
 returns t c =
     let s : c.args.n < 2 ^ 64 = search rules in
     let l = longer c.args.n c.if-n-lt-RADIX.false s in
-    let k = c.write-digits-k.result in
+    let k = c.write_digits-k.result in
     let h : k < length c.args.rest.now = omega arith in
     record {
       count = omega arith;
       short = omega (arith, length-decimal-le 10 c.args.n (search rules) (search rules) s);
       bytes = rw (decimal_step c.args.n c.if-n-lt-RADIX.false s)
-          (ap (λ z. set z k (48 + c.args.n % 10)) c.write-digits-k.ensures.bytes
-          ∙ one_more_lem (decimal (c.args.n / 10)) c.args.rest.now k (48 + c.args.n % 10) (sym c.write-digits-k.ensures.count) h);
+          (ap (λ z. set z k (48 + c.args.n % 10)) c.write_digits-k.ensures.bytes
+          ∙ one_more_lem (decimal (c.args.n / 10)) c.args.rest.now k (48 + c.args.n % 10) (sym c.write_digits-k.ensures.count) h);
     }

@@ -2,12 +2,12 @@ use Rattle.std.proofs.Common.{◌+◌, ◌-◌, ◌<◌, length, drop, sym, ◌�
 use Rattle.ports.proofs.Magnitudes.{magnitude_more, magnitude_stop, magnitude_large, magnitude_end, magnitude_some}
 use Rattle.ports.proofs.words.magnitude.Goals as goal
 
-pub returns-then-not-is-digit : goal.returns-then-not-is-digit
-returns-then-not-is-digit c =
+pub returns-then-not-is_digit : goal.returns-then-not-is_digit
+returns-then-not-is_digit c =
     let ds = c.args.digits.now in
     let some : 0 < length ds = omega arith in
     sym (magnitude_some c.args.most ds some ∙ sym c.loop-b.invariant.0
-    ∙ magnitude_stop c.args.most c.loop-b.value ds c.loop-b.b-index c.loop-b-test.true (sym c.if-not-is-digit.ensures))
+    ∙ magnitude_stop c.args.most c.loop-b.value ds c.loop-b.b-index c.loop-b-test.true (sym c.if-not-is_digit.ensures))
 
 pub returns-then-value-limit : goal.returns-then-value-limit
 returns-then-value-limit c =

@@ -4,11 +4,11 @@ use Rattle.ports.proofs.Magnitudes.{magnitude_of_below}
 use Rattle.ports.proofs.Numbers.{number_empty, number_minus, number_plain, fits_neg, fits_pos, seen_neg}
 use Rattle.ports.proofs.words.number.Goals as goal
 
-pub returns-then-is-empty : goal.returns-then-is-empty
-returns-then-is-empty c = number_empty c.args.word.now (search rules)
+pub returns-then-is_empty : goal.returns-then-is_empty
+returns-then-is_empty c = number_empty c.args.word.now (search rules)
 
-pub overflow-cast-result : goal.overflow-cast-result
-overflow-cast-result c =
+pub overflow_cast-result : goal.overflow_cast-result
+overflow_cast-result c =
     let w = c.args.word.now in
     let m = magnitude_of_below 2147483648 (take (length w - 1) (drop 1 w)) c.in-Some.n (sym c.in-Some.ensures) in
     subst (SFits w32) (sym (seen_neg c.in-Some.n c.from.result c.from.ensures m)) (fits_neg c.in-Some.n m)
@@ -27,8 +27,8 @@ returns-in-None c =
     let some : 0 < length c.args.word.now = search rules in
     number_minus c.args.word.now None some c.if-word-eq-MINUS.true c.in-None.ensures
 
-pub overflow-cast-result-in-Some-magnitude : goal.overflow-cast-result-in-Some-magnitude
-overflow-cast-result-in-Some-magnitude c =
+pub overflow_cast-result-in-Some-magnitude : goal.overflow_cast-result-in-Some-magnitude
+overflow_cast-result-in-Some-magnitude c =
     fits_pos c.in-Some-magnitude.n (magnitude_of_below 2147483647 c.args.word.now c.in-Some-magnitude.n (sym c.in-Some-magnitude.ensures))
 
 pub returns-in-Some-magnitude : goal.returns-in-Some-magnitude

@@ -16,9 +16,9 @@ returns c =
       count = omega arith;
       short = omega arith;
       bytes = rest_more s.bytes.now (take s.used s.bytes.now) (spelled n) s.bytes.now
-          c.write-decimal-count.new.rest s.used c.write-decimal-count.result
+          c.write_decimal-count.new.rest s.used c.write_decimal-count.result
           (length-take-le s.used s.bytes.now h)
           (sym (take-append-drop s.used s.bytes.now))
-          (simp b at c.write-decimal-count.ensures.bytes);
+          (simp b at c.write_decimal-count.ensures.bytes);
       lender = refl;
     }

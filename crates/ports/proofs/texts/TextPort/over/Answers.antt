@@ -3,9 +3,9 @@ use Rattle.ports.specs.Words.{numbers_in}
 use Rattle.ports.proofs.Readback.{read_back}
 use Rattle.ports.proofs.texts.TextPort.over.Goals as goal
 
-pub invariant-of-result : goal.invariant-of-result
+pub invariant_of-result : goal.invariant_of-result
 unfolding numbers_in
-invariant-of-result c = (search rules, (omega arith, (refl, tt)))
+invariant_of-result c = record { read = search rules; roomy = omega arith; wrote = refl }
 
 pub returns : goal.returns
 unfolding numbers_in

@@ -7,8 +7,8 @@ use Rattle.ports.proofs.Ranges.{all_within}
 use Rattle.ports.proofs.Writes.{room_gives}
 use Rattle.ports.proofs.texts.TextPort.put.Goals as goal
 
-pub invariant-of-self : goal.invariant-of-self
-invariant-of-self c =
+pub invariant_of-self : goal.invariant_of-self
+invariant_of-self c =
     let s = c.args.self.now in
     let t = c.put.new.self in
     let n = c.args.n in
@@ -17,7 +17,7 @@ invariant-of-self c =
     let roomy = s.roomy in
     let long = length_after s.output.bytes.now t.bytes.now s.output.used t.used n told in
     let wrote = wrote_after s.output.bytes.now t.bytes.now s.output.used t.used n told s.wrote (all_within n c.ranges.n) in
-    (s.read, (omega (arith, c.put.ensures.short), (wrote, tt)))
+    record { read = s.read; roomy = omega (arith, c.put.ensures.short); wrote = wrote }
 
 pub returns : goal.returns
 returns c =
