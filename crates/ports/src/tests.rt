@@ -44,7 +44,7 @@ fn lists(rt: HostRuntime) {
     let mut port = ListPort::over(&input, &mut output);
     takes(&rt, &mut port, 2_147_483_647, Ok(()));
     takes(&rt, &mut port, 6, Err(PortFault::NoRoom(6)));
-    assert_eq!(rt; port.written(), &[2_147_483_647]);
+    assert_eq!(rt; port.written(), [2_147_483_647].as_slice());
     gives(&rt, &mut port, Ok(7));
     gives(&rt, &mut port, Ok(-2_147_483_648));
     gives(&rt, &mut port, Err(PortFault::NoneWaits));
@@ -88,8 +88,8 @@ fn spellings(rt: HostRuntime) {
     takes(&rt, &mut port, 0, Ok(()));
     takes(&rt, &mut port, -2_147_483_648, Ok(()));
     takes(&rt, &mut port, 2_147_483_647, Ok(()));
-    assert_eq!(rt; port.written(), b"0\n-2147483648\n2147483647\n");
-    assert_eq!(rt; &output[25..], b"xxxxxxxxxxx");
+    assert_eq!(rt; port.written(), b"0\n-2147483648\n2147483647\n".as_slice());
+    assert_eq!(rt; &output[25..], b"xxxxxxxxxxx".as_slice());
 }
 
 #[test]
@@ -104,7 +104,7 @@ fn fences(rt: HostRuntime) -> Result<(), Fail> {
     takes(&rt, &mut inner, 5, Err(PortFault::OutOfRange(5)));
     takes(&rt, &mut inner, 6, Err(PortFault::OutOfRange(6)));
     gives(&rt, &mut inner, Ok(9));
-    assert_eq!(rt; port.written(), &[-5]);
+    assert_eq!(rt; port.written(), [-5].as_slice());
     Ok(())
 }
 
