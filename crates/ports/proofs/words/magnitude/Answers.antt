@@ -1,4 +1,4 @@
-use Rattle.std.proofs.Common.{◌+◌, ◌-◌, ◌<◌, length, drop, sym, ◌∙◌, arith, rules}
+use Rattle.std.proofs.Common.{◌+◌, ◌<◌, length, drop, sym, ◌∙◌, arith, rules}
 use Rattle.ports.proofs.Magnitudes.{magnitude_more, magnitude_stop, magnitude_large, magnitude_end, magnitude_some}
 use Rattle.ports.proofs.words.magnitude.Goals as goal
 
