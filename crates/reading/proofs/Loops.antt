@@ -61,9 +61,9 @@ unfolding Tree one_more
 more_err d g h f s q b e =
     ap (λ r. bind r (λ z u. Ok (f z, u))) (again d g h s ∙ ap (λ c. cond c (one_more _ g (parse_at rule d g s) (parse_at rule d (many g))) (no_more _ g s)) b ∙ ap (λ r. one_more _ g r (parse_at rule d (many g))) e)
 
-no_more : {Y : Type 0} (d : ℕ) (g : G) → Item g → (f : TreeAt rule d (many g) → Y) (s : Stream) → among (firsts g) (front_of s) ≡ false → bind (parse_at rule d (many g) s) (λ z u. Ok (f z, u)) ≡ Ok (f (items d g []), s)
+no_more_lem : {Y : Type 0} (d : ℕ) (g : G) → Item g → (f : TreeAt rule d (many g) → Y) (s : Stream) → among (firsts g) (front_of s) ≡ false → bind (parse_at rule d (many g) s) (λ z u. Ok (f z, u)) ≡ Ok (f (items d g []), s)
 unfolding Tree no_more items
-no_more d g h f s b =
+no_more_lem d g h f s b =
     ap (λ r. bind r (λ z u. Ok (f z, u))) (again d g h s ∙ ap (λ c. cond c (one_more _ g (parse_at rule d g s) (parse_at rule d (many g))) (no_more _ g s)) b)
 
 -- an item is read, and what is written for it makes up what the turn makes
@@ -99,7 +99,7 @@ pub ends : {Y : Type 0} {out : Makes Y} {R : Read Y} {a m : Reader} {d : ℕ} {g
 ends {out = out} {a = a} {m} {d} {g} {turn} {i} {p} h w stops =
     let s = w.left.part in
     let pace = s.paced in
-    let y : Whole _ a m (w.rest (items d g [])) w.made.nodes 0 = record { part = record { left = s.left ∙ no_more d g h w.rest (stream_of m) stops; lends = s.lends; onward = s.onward; state = s.state; paced = s.paced } } in
+    let y : Whole _ a m (w.rest (items d g [])) w.made.nodes 0 = record { part = record { left = s.left ∙ no_more_lem d g h w.rest (stream_of m) stops; lends = s.lends; onward = s.onward; state = s.state; paced = s.paced } } in
     pass y ((λ k. record { nodes = w.made.nodes; number = w.number k; place = w.place k }) ∙ sym (w.folds []))
 
 -- an item is refused

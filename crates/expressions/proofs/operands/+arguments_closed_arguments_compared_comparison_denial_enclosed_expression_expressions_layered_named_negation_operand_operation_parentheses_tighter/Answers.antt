@@ -34,14 +34,14 @@ pub tighter-returns-in-Logic : goal.tighter-returns-in-Logic
 tighter-returns-in-Logic t c = tighter_as c.args.allowed layer.Logic c.in-Logic.is (from_negation c.args.allowed c.negation.ensures)
 
 pub layered-returns-in_err-left : goal.layered-returns-in_err-left
-layered-returns-in_err-left t c = exit_node of_node _ c.from-residual.ensures.1 (stop (begin c.args.allowed (layer_gram c.args.layer) c.args.reader.now) c.in_err-left.ensures.reads)
+layered-returns-in_err-left t c = exit_node of_node _ c.from_residual.ensures.1 (stop (begin c.args.allowed (layer_gram c.args.layer) c.args.reader.now) c.in_err-left.ensures.reads)
 
 pub layered-returns-in_err-left-2 : goal.layered-returns-in_err-left-2
 layered-returns-in_err-left-2 t c =
     let l = c.args.layer in
     let w = c.loop-layer.invariant.0 _ _ (layered_start c.args.allowed l c.in_ok-left.ensures.reads) in
     let begins = layer_begins l _ _ _ _ c.signs.ensures c.class.ensures c.among.ensures ∙ c.loop-layer-test.true in
-    exit_node of_node _ c.from-residual-in_err-left-2.ensures.1 (fails (layer_item l) w begins c.in_err-left-2.ensures.reads)
+    exit_node of_node _ c.from_residual-in_err-left-2.ensures.1 (fails (layer_item l) w begins c.in_err-left-2.ensures.reads)
 
 pub layered-loop-layer-preserved : goal.layered-loop-layer-preserved
 layered-loop-layer-preserved t c =
@@ -65,13 +65,13 @@ layered-returns t c =
 pub operation-returns-in_err-sign : goal.operation-returns-in_err-sign
 operation-returns-in_err-sign t c =
     let l = c.args.layer in
-    exit_node of_node _ c.from-residual.ensures.1 (stop_mark (first_sign l) (other_signs l) (begin c.args.allowed (turn_gram l) c.args.reader.now) (take_signs c.signs.ensures c.in_err-sign.ensures))
+    exit_node of_node _ c.from_residual.ensures.1 (stop_mark (first_sign l) (other_signs l) (begin c.args.allowed (turn_gram l) c.args.reader.now) (take_signs c.signs.ensures c.in_err-sign.ensures))
 
 pub operation-returns-in_err-right : goal.operation-returns-in_err-right
 operation-returns-in_err-right t c =
     let l = c.args.layer in
     let s = past_mark (first_sign l) (other_signs l) (begin c.args.allowed (turn_gram l) c.args.reader.now) (take_signs c.signs.ensures c.in_ok-sign.ensures) in
-    exit_node of_node _ c.from-residual-in_err-right.ensures.1 (stop_last s.more c.in_err-right.ensures.reads)
+    exit_node of_node _ c.from_residual-in_err-right.ensures.1 (stop_last s.more c.in_err-right.ensures.reads)
 
 pub operation-returns : goal.operation-returns
 unfolding Tree turn_made pair
@@ -92,12 +92,12 @@ unfolding Tree negation_made inject_last right_tree
 negation-returns-else-class-eq-NOT t c = as_last c.args.allowed negation (negation_made (inner_made c.args.allowed)) (none_of _ (47 ∷ []) ((λ e. c.if-class-eq-NOT.false (c.class.ensures ∙ e)), tt)) (λ x n. refl) c.comparison.ensures
 
 pub denial-returns-in_err-place : goal.denial-returns-in_err-place
-denial-returns-in_err-place t c = exit_node of_node _ c.from-residual.ensures.1 (not_opened c.args.allowed 47 negated c.in_err-place.ensures.takes)
+denial-returns-in_err-place t c = exit_node of_node _ c.from_residual.ensures.1 (not_opened c.args.allowed 47 negated c.in_err-place.ensures.takes)
 
 pub denial-returns-in_err-inner : goal.denial-returns-in_err-inner
 denial-returns-in_err-inner t c =
     let o = c.in_ok-place.ensures in
-    exit_node of_node _ c.from-residual-in_err-inner.ensures.1 (denial_stop c.args.allowed o.allows o.takes c.in_err-inner.ensures.reads)
+    exit_node of_node _ c.from_residual-in_err-inner.ensures.1 (denial_stop c.args.allowed o.allows o.takes c.in_err-inner.ensures.reads)
 
 pub denial-returns : goal.denial-returns
 denial-returns t c =
@@ -105,13 +105,13 @@ denial-returns t c =
     denial_ok c.args.allowed o.allows o.takes c.in_ok-inner.ensures.reads c.record.ensures c.over.ensures
 
 pub comparison-returns-in_err-left : goal.comparison-returns-in_err-left
-comparison-returns-in_err-left t c = exit_node of_node _ c.from-residual.ensures.1 (stop (begin c.args.allowed comparison c.args.reader.now) (to_sum c.args.allowed c.in_err-left.ensures).reads)
+comparison-returns-in_err-left t c = exit_node of_node _ c.from_residual.ensures.1 (stop (begin c.args.allowed comparison c.args.reader.now) (to_sum c.args.allowed c.in_err-left.ensures).reads)
 
 pub comparison-returns-in_err-left-2 : goal.comparison-returns-in_err-left-2
 comparison-returns-in_err-left-2 t c =
     let w = c.loop-reader.invariant.0 _ _ (comparison_start c.args.allowed (to_sum c.args.allowed c.in_ok-left.ensures).reads) in
     let begins = ap (among (45 ∷ (46 ∷ (32 ∷ (25 ∷ []))))) (sym c.class.ensures) ∙ sym c.among.ensures ∙ c.loop-reader-test.true in
-    exit_node of_node _ c.from-residual-in_err-left-2.ensures.1 (fails compared_item w begins c.in_err-left-2.ensures.reads)
+    exit_node of_node _ c.from_residual-in_err-left-2.ensures.1 (fails compared_item w begins c.in_err-left-2.ensures.reads)
 
 pub comparison-loop-reader-preserved : goal.comparison-loop-reader-preserved
 comparison-loop-reader-preserved t c =
@@ -133,13 +133,13 @@ comparison-returns t c =
 pub compared-returns-in_err-place : goal.compared-returns-in_err-place
 compared-returns-in_err-place t c =
     let none = ap (among (45 ∷ (46 ∷ (32 ∷ [])))) (sym c.class.ensures) ∙ sym c.among.ensures ∙ c.if-not-among.true in
-    exit_node of_node _ c.from-residual.ensures.1 (stop_token (on_last (begin c.args.allowed compared c.args.reader.now) none) c.in_err-place.ensures)
+    exit_node of_node _ c.from_residual.ensures.1 (stop_token (on_last (begin c.args.allowed compared c.args.reader.now) none) c.in_err-place.ensures)
 
 pub compared-returns-in_err-right : goal.compared-returns-in_err-right
 compared-returns-in_err-right t c =
     let none = ap (among (45 ∷ (46 ∷ (32 ∷ [])))) (sym c.class.ensures) ∙ sym c.among.ensures ∙ c.if-not-among.true in
     let s = past_token (on_last (begin c.args.allowed compared c.args.reader.now) none) c.in_ok-place.ensures in
-    exit_node of_node _ c.from-residual-in_err-right.ensures.1 (stop_last s.more (as_leaf_lem c.args.allowed 51 c.in_err-right.ensures.reads))
+    exit_node of_node _ c.from_residual-in_err-right.ensures.1 (stop_last s.more (as_leaf_lem c.args.allowed 51 c.in_err-right.ensures.reads))
 
 pub compared-returns-then-not-among : goal.compared-returns-then-not-among
 unfolding Tree compared_made_over pair leaf_made inject_last right_tree
@@ -152,13 +152,13 @@ compared-returns-then-not-among t c =
 pub compared-returns-in_err-sign : goal.compared-returns-in_err-sign
 compared-returns-in_err-sign t c =
     let some = ap (among (45 ∷ (46 ∷ (32 ∷ [])))) (sym c.class.ensures) ∙ sym c.among.ensures ∙ c.if-not-among.false in
-    exit_node of_node _ c.from-residual-in_err-sign.ensures.1 (stop_mark 45 (46 ∷ (32 ∷ [])) (on_first (begin c.args.allowed compared c.args.reader.now) some) c.in_err-sign.ensures)
+    exit_node of_node _ c.from_residual-in_err-sign.ensures.1 (stop_mark 45 (46 ∷ (32 ∷ [])) (on_first (begin c.args.allowed compared c.args.reader.now) some) c.in_err-sign.ensures)
 
 pub compared-returns-in_err-right-2 : goal.compared-returns-in_err-right-2
 compared-returns-in_err-right-2 t c =
     let some = ap (among (45 ∷ (46 ∷ (32 ∷ [])))) (sym c.class.ensures) ∙ sym c.among.ensures ∙ c.if-not-among.false in
     let s = past_mark 45 (46 ∷ (32 ∷ [])) (on_first (begin c.args.allowed compared c.args.reader.now) some) c.in_ok-sign.ensures in
-    exit_node of_node _ c.from-residual-in_err-right-2.ensures.1 (stop_last s.more (to_sum c.args.allowed c.in_err-right-2.ensures).reads)
+    exit_node of_node _ c.from_residual-in_err-right-2.ensures.1 (stop_last s.more (to_sum c.args.allowed c.in_err-right-2.ensures).reads)
 
 pub compared-returns : goal.compared-returns
 unfolding Tree compared_made_over pair left_tree
@@ -211,7 +211,7 @@ operand-returns-in_default t c =
     (λ x n. refl) c.parentheses.ensures
 
 pub named-returns-in_err-name : goal.named-returns-in_err-name
-named-returns-in_err-name t c = exit_node of_node _ c.from-residual.ensures.1 (stop_token (begin c.args.allowed named c.args.reader.now) c.in_err-name.ensures)
+named-returns-in_err-name t c = exit_node of_node _ c.from_residual.ensures.1 (stop_token (begin c.args.allowed named c.args.reader.now) c.in_err-name.ensures)
 
 pub named-returns-then-class-ne-OPEN : goal.named-returns-then-class-ne-OPEN
 unfolding Tree named_made pair leaf_made inject_last right_tree nothing
@@ -223,7 +223,7 @@ named-returns-then-class-ne-OPEN t c =
 pub named-returns-in_err-first : goal.named-returns-in_err-first
 named-returns-in_err-first t c =
     let s = past_name (begin c.args.allowed named c.args.reader.now) c.in_ok-name.ensures in
-    exit_node of_node _ c.from-residual-in_err-first.ensures.1 (stop_last (on_branch 38 s.more (sym c.class.ensures ∙ c.if-class-ne-OPEN.false)) c.in_err-first.ensures)
+    exit_node of_node _ c.from_residual-in_err-first.ensures.1 (stop_last (on_branch 38 s.more (sym c.class.ensures ∙ c.if-class-ne-OPEN.false)) c.in_err-first.ensures)
 
 pub named-returns : goal.named-returns
 unfolding Tree named_made nest_made pair leaf_made inject inject_by left_tree
@@ -235,7 +235,7 @@ named-returns t c =
 -- ---- arguments
 
 pub arguments-returns-in_err--place : goal.arguments-returns-in_err--place
-arguments-returns-in_err--place t c = exit of_list _ c.from-residual.ensures.1 (not_opened c.args.allowed 38 arguments c.in_err--place.ensures.takes)
+arguments-returns-in_err--place t c = exit of_list _ c.from_residual.ensures.1 (not_opened c.args.allowed 38 arguments c.in_err--place.ensures.takes)
 
 pub arguments-returns : goal.arguments-returns
 arguments-returns t c =
@@ -243,12 +243,12 @@ arguments-returns t c =
     opens c.args.allowed 38 arguments o.allows o.takes (c.closed_arguments.ensures c.in_ok--place.-place)
 
 pub closed_arguments-returns-in_err-first : goal.closed_arguments-returns-in_err-first
-closed_arguments-returns-in_err-first t c = λ p. exit of_list _ c.from-residual.ensures.1 (stop (begin c.args.allowed (rule arguments) c.args.reader.now) c.in_err-first.ensures)
+closed_arguments-returns-in_err-first t c = λ p. exit of_list _ c.from_residual.ensures.1 (stop (begin c.args.allowed (rule arguments) c.args.reader.now) c.in_err-first.ensures)
 
 pub closed_arguments-returns-in_err-take : goal.closed_arguments-returns-in_err-take
 closed_arguments-returns-in_err-take t c = λ p.
     let s = first (begin c.args.allowed (rule arguments) c.args.reader.now) c.in_ok-first.ensures in
-    exit of_list _ c.from-residual-in_err-take.ensures.1 (stop_last_token s.more c.in_err-take.ensures)
+    exit of_list _ c.from_residual-in_err-take.ensures.1 (stop_last_token s.more c.in_err-take.ensures)
 
 pub closed_arguments-returns : goal.closed_arguments-returns
 closed_arguments-returns t c = λ p.
@@ -266,7 +266,7 @@ expressions-returns-then-not-among t c =
 pub expressions-returns-in_err-first : goal.expressions-returns-in_err-first
 expressions-returns-in_err-first t c =
     let some = ap (among (47 ∷ (52 ∷ (41 ∷ (21 ∷ (22 ∷ (51 ∷ (23 ∷ (24 ∷ (44 ∷ (38 ∷ []))))))))))) (sym c.class.ensures) ∙ sym c.among.ensures ∙ c.if-not-among.false in
-    exit of_list _ c.from-residual.ensures.1 (stop (on_first (begin c.args.allowed arguments_gram c.args.reader.now) some) c.in_err-first.ensures.reads)
+    exit of_list _ c.from_residual.ensures.1 (stop (on_first (begin c.args.allowed arguments_gram c.args.reader.now) some) c.in_err-first.ensures.reads)
 
 pub expressions-returns-in_err-take : goal.expressions-returns-in_err-take
 expressions-returns-in_err-take t c = ?
@@ -283,7 +283,7 @@ expressions-returns t c = ?
 -- ---- parentheses
 
 pub parentheses-returns-in_err--place : goal.parentheses-returns-in_err--place
-parentheses-returns-in_err--place t c = exit_node of_node _ c.from-residual.ensures.1 (not_opened c.args.allowed 38 parentheses c.in_err--place.ensures.takes)
+parentheses-returns-in_err--place t c = exit_node of_node _ c.from_residual.ensures.1 (not_opened c.args.allowed 38 parentheses c.in_err--place.ensures.takes)
 
 pub parentheses-returns : goal.parentheses-returns
 parentheses-returns t c =
@@ -291,12 +291,12 @@ parentheses-returns t c =
     opens_node c.args.allowed 38 parentheses o.allows o.takes (c.enclosed.ensures c.in_ok--place.-place)
 
 pub enclosed-returns-in_err-inner : goal.enclosed-returns-in_err-inner
-enclosed-returns-in_err-inner t c = λ p. exit_node of_node _ c.from-residual.ensures.1 (stop (begin c.args.allowed (rule parentheses) c.args.reader.now) c.in_err-inner.ensures.reads)
+enclosed-returns-in_err-inner t c = λ p. exit_node of_node _ c.from_residual.ensures.1 (stop (begin c.args.allowed (rule parentheses) c.args.reader.now) c.in_err-inner.ensures.reads)
 
 pub enclosed-returns-in_err-take : goal.enclosed-returns-in_err-take
 enclosed-returns-in_err-take t c = λ p.
     let s = first (begin c.args.allowed (rule parentheses) c.args.reader.now) c.in_ok-inner.ensures.reads in
-    exit_node of_node _ c.from-residual-in_err-take.ensures.1 (stop_last_token s.more c.in_err-take.ensures)
+    exit_node of_node _ c.from_residual-in_err-take.ensures.1 (stop_last_token s.more c.in_err-take.ensures)
 
 pub enclosed-returns : goal.enclosed-returns
 unfolding Tree rule_made pair

@@ -21,15 +21,27 @@ invariant_of-self c =
     let p = next_place lexer.source.now lexer.place after.place _ lexer.within c.in-Ok.ensures.stepped.lawful in
     let behind = self.onward c.requires in
     let few = self.few in
-    (subst (λ s. length s.now ≤ 16384) (sym c.in-Ok.ensures.source) self.short, (omega arith, (p.1, (p.3, (next_fits lexer.place after.place _ _ c.in-Ok.ensures.stepped.lawful, tt)))))
+    record {
+      short = subst (λ s. length s.now ≤ 16384) (sym c.in-Ok.ensures.source) self.short;
+      few = omega arith;
+      reached = p.1;
+      onward = p.3;
+      fits = next_fits lexer.place after.place _ _ c.in-Ok.ensures.stepped.lawful;
+    }
 
-pub invariant_of-self-in-Err· : goal.invariant_of-self-in-Err·
-invariant_of-self-in-Err· c =
+pub invariant_of-self-in-Err : goal.invariant_of-self-in-Err
+invariant_of-self-in-Err c =
     let self = c.args.self.now in
     let lexer = self.lexer in
     let later = refused_place lexer.source.now lexer.place c.next_token.new.self.place _ c.in-Err.ensures.stepped.lawful in
     let behind = self.onward c.requires in
-    (subst (λ s. length s.now ≤ 16384) (sym c.in-Err.ensures.source) self.short, (self.few, (omega arith, ((λ _. omega arith), (self.fits, tt)))))
+    record {
+      short = subst (λ s. length s.now ≤ 16384) (sym c.in-Err.ensures.source) self.short;
+      few = self.few;
+      reached = omega arith;
+      onward = λ _. omega arith;
+      fits = self.fits;
+    }
 
 pub returns-in-Ok : goal.returns-in-Ok
 returns-in-Ok c =

@@ -13,7 +13,7 @@ returns-in-Err c =
     record { reads = refuse_as told.reads (joint_refused (lexeme self.token) self.place _ c.in-Err.fault (refused told.reads) ∙ ap Err (sym c.blamed.ensures)); last = tt }
 
 pub returns-in_err-one_of : goal.returns-in_err-one_of
-returns-in_err-one_of c = exit_node of_node _ c.from-residual.ensures.1 (not_joined c.in-Ok.ensures c.in_err-one_of.ensures)
+returns-in_err-one_of c = exit_node of_node _ c.from_residual.ensures.1 (not_joined c.in-Ok.ensures c.in_err-one_of.ensures)
 
 pub returns : goal.returns
 returns c =

@@ -6,12 +6,12 @@ use Rattle.reading.proofs.Sequences.{begin, past_token, only, as_leaf_lem, stop_
 use Rattle.reading.proofs.readers.Reader.of_variable.Goals as goal
 
 pub returns-in_err-place : goal.returns-in_err-place
-returns-in_err-place c = λ d. exit_node of_node _ c.from-residual.ensures.1 (stop_token (begin d (seq (tok c.args.class) (tok 51)) c.args.self.now) c.in_err-place.ensures)
+returns-in_err-place c = λ d. exit_node of_node _ c.from_residual.ensures.1 (stop_token (begin d (seq (tok c.args.class) (tok 51)) c.args.self.now) c.in_err-place.ensures)
 
 pub returns-in_err-variable : goal.returns-in_err-variable
 returns-in_err-variable c = λ d.
     let s = past_token (begin d (seq (tok c.args.class) (tok 51)) c.args.self.now) c.in_ok-place.ensures in
-    exit_node of_node _ c.from-residual-in_err-variable.ensures.1 (stop_last s.more (as_leaf_lem d 51 c.in_err-variable.ensures.reads))
+    exit_node of_node _ c.from_residual-in_err-variable.ensures.1 (stop_last s.more (as_leaf_lem d 51 c.in_err-variable.ensures.reads))
 
 pub returns : goal.returns
 unfolding Tree of_variable_made pair leaf_made

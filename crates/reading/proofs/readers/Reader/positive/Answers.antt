@@ -9,7 +9,7 @@ use Rattle.reading.proofs.Values.{token_is, positive_value}
 use Rattle.reading.proofs.readers.Reader.positive.Goals as goal
 
 pub returns-in_err-place : goal.returns-in_err-place
-returns-in_err-place c = exit_node of_node _ c.from-residual.ensures.1 (refused_as c.in_err-place.ensures)
+returns-in_err-place c = exit_node of_node _ c.from_residual.ensures.1 (refused_as c.in_err-place.ensures)
 
 pub returns : goal.returns
 returns c =
