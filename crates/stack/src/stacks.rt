@@ -13,7 +13,7 @@ pub struct Overflow {
 
 /// Puts an entry on.
 pub fn put_on<E: Entry>(slots: &mut [E], height: &mut Height, entry: E) -> Result<(), Overflow>
-    ensures pushed { Pushed E.limit Overflow slots.old height.old.entries entry result slots.new height.new.entries }
+    ensures pushed { Pushed E.limit E.overflow slots.old height.old.entries entry result slots.new height.new.entries }
     ensures grown { Grown slots.old height.old.entries entry result slots.new height.new.entries }
 {
     let at = height.entries;
@@ -72,7 +72,7 @@ pub struct Stack<'a, E> {
 impl<'a, E: Entry> Stack<'a, E> {
     /// Puts an entry on.
     pub fn push(&mut self, height: &mut Height, entry: E) -> Result<(), Overflow>
-        ensures pushed { Pushed E.limit Overflow self.old.slots.now height.old.entries entry result self.new.slots.now height.new.entries }
+        ensures pushed { Pushed E.limit E.overflow self.old.slots.now height.old.entries entry result self.new.slots.now height.new.entries }
         ensures grown { Grown self.old.slots.now height.old.entries entry result self.new.slots.now height.new.entries }
         ensures lent { self.new.slots.ghost_name ≡ self.old.slots.ghost_name }
     {
