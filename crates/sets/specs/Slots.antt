@@ -1,5 +1,5 @@
 -- What each call of a store answers and leaves, where S is the list of its 32 sets.
-use Rattle.std.specs.Prelude.{◌≡◌, ℕ, ◌-◌, ◌≤◌, Bool, true, cond, ◌&&◌, List, [], length, set, ℤ, Ok, Err, Result, nat_le, nat_lt, slice_index_or, slice_set}
+use Rattle.std.specs.Prelude.{◌≡◌, ℕ, ◌-◌, ◌≤◌, Bool, true, cond, ◌&&◌, List, [], length, ℤ, Ok, Err, Result, nat_le, nat_lt, slice_index_or, slice_set}
 use Rattle.std.specs.List.{AllByRecursion as All}
 use Rattle.sets.specs.declared.faults.SetFault.{SetFault}
 use Rattle.sets.specs.declared.faults.SetFault.TheVariants.{NoSlot, Full}

@@ -2,7 +2,7 @@ use Rattle.std.proofs.Common.{[]}
 use Rattle.sets.proofs.Slots.{still_full}
 use Rattle.sets.proofs.lent.RowStoreSetStore.empty.Goals as goal
 
-pub invariant-of-self : goal.invariant-of-self
-invariant-of-self c =
+pub invariant_of-self : goal.invariant_of-self
+invariant_of-self c =
     let s = c.args.self.now in
-    (still_full c.args.slot (λ _. []) s.rows.now c.empty-in.new.rows s.full c.empty-in.ensures.leaves, tt)
+    record { full = still_full c.args.slot (λ _. []) s.rows.now c.empty_in.new.rows s.full c.empty_in.ensures.leaves }

@@ -2,7 +2,7 @@ use Rattle.sets.specs.Sets.{cut}
 use Rattle.sets.proofs.Slots.{still_full}
 use Rattle.sets.proofs.lent.RowStoreSetStore.remove.Goals as goal
 
-pub invariant-of-self : goal.invariant-of-self
-invariant-of-self c =
+pub invariant_of-self : goal.invariant_of-self
+invariant_of-self c =
     let s = c.args.self.now in
-    (still_full c.args.slot (cut _) s.rows.now c.remove-in.new.rows s.full c.remove-in.ensures.leaves, tt)
+    record { full = still_full c.args.slot (cut _) s.rows.now c.remove_in.new.rows s.full c.remove_in.ensures.leaves }
