@@ -4,6 +4,7 @@
 //! [`report`] gives the line that the bench prints, byte for byte. Screening takes one pass over the script and no memory;
 //! the line is a `String`, since the bench is no part of the craft.
 #![tactic(auto)]
+
 ghost use Rattle.std.specs.Prelude.{◌≡◌, IfOk, string_bytes};
 ghost use Rattle.account.specs.Accounts.{refusal_number, screened, Screened, line};
 

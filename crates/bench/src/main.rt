@@ -1,5 +1,6 @@
 //! The bench: what the craft would do with the script in the folder that it is run in.
 #![tactic(auto)]
+
 use account::report;
 use std::fs;
 use std::process::ExitCode;

@@ -1,5 +1,6 @@
 //! Runs a file of cases through the library, and says which come out otherwise than they should.
 #![tactic(auto)]
+
 mod files;
 mod listing;
 

@@ -1,5 +1,5 @@
 -- A number read, put into a set, and written: what comes of it, by the meanings of store and port alone.
-use Rattle.std.specs.Prelude.{ℕ, List, [], ◌∷◌, ℤ, Ok, Err, Result}
+use Rattle.std.specs.Prelude.{ℕ, List, ℤ, Ok, Err, Result}
 use Rattle.ports.specs.declared.faults.PortFault.{PortFault}
 use Rattle.ports.specs.Meanings.{Meaning, read_gives, read_leaves, write_gives, write_leaves}
 use Rattle.sets.specs.declared.faults.SetFault.{SetFault}

@@ -3,6 +3,7 @@
 //! A fault of either travels up whole inside one fault, by `?`. [`pass_on`] is proved once, for every store and every port,
 //! from their meanings alone.
 #![tactic(auto)]
+
 pub mod faults;
 pub mod passing;
 

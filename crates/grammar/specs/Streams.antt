@@ -1,7 +1,6 @@
 -- The tokens that are still to be read.
 use Rattle.std.specs.Prelude.{ℕ, List, [], ◌∷◌, Ok, Err, Result}
 use Rattle.text.specs.declared.places.Placed.{Placed}
-use Rattle.text.specs.declared.tokens.Token.TheVariants as token
 use Rattle.text.specs.Steps.{at}
 use Rattle.text.specs.Tokens.{Lexeme, Verdict}
 use Rattle.grammar.specs.declared.faults.GrammarFault.{GrammarFault}

@@ -6,5 +6,6 @@
 //!
 //! The code here gives tokens their classes.
 #![tactic(auto)]
+
 pub mod classing;
 pub mod faults;
