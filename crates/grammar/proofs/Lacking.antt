@@ -1,7 +1,7 @@
 -- Trees that have no token of a class.
 use Rattle.std.proofs.Common.{◌≡◌, ℕ, zero, suc, Bool, true, false, not, ◌&&◌, ◌||◌, eqb, List, [], ◌∷◌, ◌++◌, sym, refl, ap, subst, inl, inr}
 use Rattle.std.proofs.lemmas.Bool.{and_parts, not-true, ne_eqb, both_ways}
-use Rattle.std.specs.List.{AllByRecursion as All}
+use Rattle.std.specs.List.{AllByRecursion}
 use Rattle.text.specs.declared.places.Placed.{Placed}
 use Rattle.text.specs.Tokens.{Lexeme, Verdict}
 use Rattle.grammar.specs.Firsts.{lacks, Language, Lawful}
@@ -11,7 +11,7 @@ use Rattle.grammar.specs.TokenClasses.{class_of, is_class, among}
 use Rattle.grammar.proofs.Heads.{Fits, Begun}
 
 abbrev pub NoClass : ℕ → List (Placed Lexeme) → Type 0
-NoClass k ts = All (λ t. is_class k t ≡ false) ts
+NoClass k ts = AllByRecursion (λ t. is_class k t ≡ false) ts
 
 none_both : (k : ℕ) (a b : List (Placed Lexeme)) → NoClass k a → NoClass k b → NoClass k (a ++ b)
 none_both k [] b h l = l

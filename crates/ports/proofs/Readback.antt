@@ -1,6 +1,6 @@
 -- What was spelled is read back.
 use Rattle.std.proofs.Common.{◌≡◌, ℕ, zero, suc, ◌+◌, ◌-◌, ◌*◌, ◌/◌, ◌%◌, ◌^◌, ◌<◌, ◌≤◌, Bool, true, false, cond, ◌&&◌, eqb, leb, List, [], ◌∷◌, ◌++◌, length, ℤ, pos, negsuc, neg_ℤ, nat_abs, Some, None, decimal, Option, sym, refl, ap, ◌∙◌, arith}
-use Rattle.std.specs.List.{AllByRecursion as All}
+use Rattle.std.specs.List.{AllByRecursion}
 use Rattle.std.proofs.lemmas.Fmt.{decimal_by_steps, decimal_nonempty}
 use Rattle.std.proofs.lemmas.List.{append_assoc, append-nil}
 use Rattle.std.proofs.lemmas.Bool.{le-leb, leb-true, ne_eqb, and_parts, and_from}
@@ -30,7 +30,7 @@ decimal_reads most =
     ap (magnitude_from most 0) (append_assoc ds ((48 + n % 10) ∷ []) rest) ∙ k ((48 + n % 10) ∷ rest) ∙ reads_one most (n / 10) (n % 10) rest low ∙ ap (λ x. magnitude_from most x rest) z)
 
 abbrev Digits : List ℕ → Type 0
-Digits ds = All (λ d. digit d ≡ true) ds
+Digits ds = AllByRecursion (λ d. digit d ≡ true) ds
 
 digits_push : (ds : List ℕ) (d : ℕ) → Digits ds → digit d ≡ true → Digits (ds ++ (d ∷ []))
 digits_push [] d h k = (k, tt)
@@ -63,7 +63,7 @@ digit_solid d h =
 
 -- a word, and then a line feed
 abbrev Whole : List ℕ → Type 0
-Whole w = All (λ b. blank b ≡ false) w
+Whole w = AllByRecursion (λ b. blank b ≡ false) w
 
 word_piece : (w rest : List ℕ) → Whole w → first_piece (w ++ (10 ∷ rest)) ≡ w
 word_piece [] rest h = refl
@@ -158,7 +158,7 @@ number_fits (b ∷ bs) n e = go (eqb b 45) e
     go false e = mapped_fits pos 2147483647 (magnitude_of 2147483647 (b ∷ bs)) n small_fits (magnitude_of_below 2147483647 (b ∷ bs)) e
 
 abbrev Fit : List ℤ → Type 0
-Fit ns = All (λ n. fits32 n ≡ true) ns
+Fit ns = AllByRecursion (λ n. fits32 n ≡ true) ns
 
 leading_fits : (o : Option ℤ) (ns : List ℤ) → ((n : ℤ) → o ≡ Some n → fits32 n ≡ true) → Fit ns → Fit (leading o ns)
 leading_fits None ns h k = tt

@@ -1,6 +1,6 @@
 -- Numbers spelled as decimals, each with a line feed after it.
 use Rattle.std.specs.Prelude.{◌≡◌, ℕ, Bool, true, List, [], ◌∷◌, ◌++◌, ℤ, pos, negsuc, decimal, unsigned_abs}
-use Rattle.std.specs.List.{AllByRecursion as All}
+use Rattle.std.specs.List.{AllByRecursion}
 use Rattle.ports.specs.Meanings.{within}
 use Rattle.ports.specs.Words.{numbers_in}
 
@@ -22,4 +22,4 @@ fits32 n = within (negsuc 2147483647) (pos 2147483647) n
 
 -- what was spelled is read back
 abbrev pub ReadBack : Type 0
-ReadBack = (ns : List ℤ) → All (λ n. fits32 n ≡ true) ns → numbers_in (spellings ns) ≡ ns
+ReadBack = (ns : List ℤ) → AllByRecursion (λ n. fits32 n ≡ true) ns → numbers_in (spellings ns) ≡ ns

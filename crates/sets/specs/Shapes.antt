@@ -1,7 +1,7 @@
 -- Rows hold sets of the shape that a store asks for.
 use Rattle.std.specs.Prelude.{◌≡◌, List, [], ◌∷◌, length}
 use Rattle.std.proofs.Common.{◌∙◌, arith, length-take}
-use Rattle.std.specs.List.{AllByRecursion as All}
+use Rattle.std.specs.List.{AllByRecursion}
 use Rattle.std.proofs.lemmas.List.{length-map}
 use Rattle.sets.specs.declared.rows.Row.{Row}
 use Rattle.sets.specs.Held.{items, held}
@@ -10,7 +10,7 @@ use Rattle.sets.specs.Slots.{Sound, Shaped}
 sound : (r : Row) → Sound (items r)
 sound r = record { rises = r.rises; fits = simp length-take (omega (arith, r.fit)) }
 
-each : (rows : List Row) → All Sound (held rows)
+each : (rows : List Row) → AllByRecursion Sound (held rows)
 each [] = tt
 each (r ∷ rs) = (sound r, each rs)
 

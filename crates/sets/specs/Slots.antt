@@ -1,6 +1,6 @@
 -- What each call of a store answers and leaves, where S is the list of its 32 sets.
 use Rattle.std.specs.Prelude.{◌≡◌, ℕ, ◌-◌, ◌≤◌, Bool, true, cond, ◌&&◌, List, [], length, ℤ, Ok, Err, Result, nat_le, nat_lt, slice_index_or, slice_set}
-use Rattle.std.specs.List.{AllByRecursion as All}
+use Rattle.std.specs.List.{AllByRecursion}
 use Rattle.sets.specs.declared.faults.SetFault.{SetFault}
 use Rattle.sets.specs.declared.faults.SetFault.TheVariants.{NoSlot, Full}
 use Rattle.sets.specs.Sets.{rising, takes}
@@ -32,4 +32,4 @@ pub record Sound (xs : List ℤ) : Type 0 where
 -- 32 sets
 pub record Shaped (S : List (List ℤ)) : Type 0 where
   pub full : length S ≡ 32
-  pub each : All Sound S
+  pub each : AllByRecursion Sound S

@@ -1,6 +1,6 @@
 -- How a text is made of tokens, with no word on how they are found.
 use Rattle.std.specs.Prelude.{◌≡◌, ℕ, ◌+◌, ◌<◌, ◌≤◌, Bool, true, false, ◌⊎◌, List, [], ◌∷◌, ◌++◌, length, drop, Ok, Err, MatchBool, ◌≢◌}
-use Rattle.std.specs.List.{AllByRecursion as All}
+use Rattle.std.specs.List.{AllByRecursion}
 use Rattle.text.specs.declared.places.Placed.{Placed}
 use Rattle.text.specs.declared.spellings.Sign.{Sign}
 use Rattle.text.specs.declared.tokens.LexFault.{LexFault}
@@ -13,7 +13,7 @@ use Rattle.text.specs.Tokens.{Lexeme, is_end, Answer, Verdict}
 
 -- every byte passes a test
 abbrev pub Each : (ℕ → Bool) → List ℕ → Type 0
-Each p bs = All (λ b. p b ≡ true) bs
+Each p bs = AllByRecursion (λ b. p b ≡ true) bs
 
 -- blanks and whole comments, and nothing else
 pub data Between : List ℕ → Type 0 where
