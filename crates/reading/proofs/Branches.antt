@@ -3,14 +3,14 @@ use Rattle.std.proofs.Common.{◌≡◌, ℕ, Bool, true, false, cond, ◌||◌,
 use Rattle.std.proofs.lemmas.Bool.{ne_eqb, both_ways}
 use Rattle.table.specs.declared.nodes.Node.{Node}
 use Rattle.grammar.specs.Firsts.{firsts}
-use Rattle.grammar.specs.Grammars.{Gram, tok, joint, nil, seq, alt, many, ahead, nest, Of, Tree, TreeAt}
+use Rattle.grammar.specs.Grammars.{tok, joint, nil, seq, alt, many, ahead, nest, Of, Tree, TreeAt}
 use Rattle.grammar.specs.Parsers.{Read, bind, parse, parse_at}
 use Rattle.grammar.specs.Streams.{Stream}
 use Rattle.grammar.specs.TokenClasses.{among}
 use Rattle.syntax.specs.Nodes.{Made, Makes}
 use Rattle.syntax.specs.Syntax.{G, rule}
 use Rattle.reading.specs.declared.readers.Reader.{Reader}
-use Rattle.reading.specs.States.{State, stream_of, state_of, Answer, outcome, done, written, Reads, Builds}
+use Rattle.reading.specs.States.{State, stream_of, state_of, Answer, done, written, Reads, Builds}
 use Rattle.reading.specs.Steps.{front_of, taken}
 use Rattle.reading.proofs.Sequences.{Left, Whole, begin_as, pair, leaf_made}
 

@@ -7,7 +7,7 @@ use Rattle.table.specs.declared.nodes.Node.{Node}
 use Rattle.table.specs.Records.{zero as zeros}
 use Rattle.grammar.specs.Firsts.{nullable, firsts, apart}
 use Rattle.grammar.specs.Grammars.{many, Tree, TreeAt, inner_yield}
-use Rattle.grammar.specs.Parsers.{Read, bind, parse, parse_in, parse_at}
+use Rattle.grammar.specs.Parsers.{Read, bind, parse_in, parse_at}
 use Rattle.grammar.specs.Streams.{Stream, Refusal}
 use Rattle.grammar.specs.TokenClasses.{among}
 use Rattle.grammar.proofs.Soundness.{sound_in}
@@ -15,9 +15,9 @@ use Rattle.grammar.proofs.Unrolling.{many_again, one_more, none as no_more}
 use Rattle.syntax.specs.Nodes.{Made, Makes, folded, with_next, next_last, first_or, linked, none}
 use Rattle.syntax.specs.Syntax.{G, rule}
 use Rattle.reading.specs.declared.readers.Reader.{Reader}
-use Rattle.reading.specs.States.{State, stream_of, state_of, Goes, Lends, Stays, Written, Chained, linked_at, applied, written, Reads}
+use Rattle.reading.specs.States.{State, stream_of, state_of, Lends, Written, Chained, linked_at, applied, written, Reads}
 use Rattle.reading.specs.Steps.{front_of}
-use Rattle.reading.proofs.Sequences.{got, refused, Partly, Left, Whole, so_many, same_stream, count_is, applied_append, pass}
+use Rattle.reading.proofs.Sequences.{got, refused, Left, Whole, so_many, same_stream, applied_append, pass}
 
 -- a grammar of which any number may be read
 pub record Item (g : G) : Type 0 where

@@ -3,7 +3,7 @@ use Rattle.std.proofs.Common.{◌≡◌, ℕ, Bool, true, false, cond, ◌||◌,
 use Rattle.table.specs.declared.nodes.Node.{Node}
 use Rattle.text.specs.declared.places.Placed.{Placed}
 use Rattle.text.specs.Tokens.{Lexeme, Verdict}
-use Rattle.grammar.specs.Grammars.{Gram, seq, tok, alt, Of, Tree, TreeAt, Inner}
+use Rattle.grammar.specs.Grammars.{seq, tok, Of, Tree, TreeAt, Inner}
 use Rattle.grammar.specs.Parsers.{Read, bind, passed, take_by, misfit, parse, parse_at}
 use Rattle.grammar.specs.Streams.{Stream, Refusal, from}
 use Rattle.grammar.specs.TokenClasses.{class_of, is_class, among}

@@ -1,14 +1,14 @@
 -- A construct one level further in, after the token that opens it.
-use Rattle.std.proofs.Common.{◌≡◌, ℕ, zero, suc, ◌-◌, ◌<◌, Bool, true, false, cond, List, [], ◌∷◌, IfOk, Ok, Err, Result, sym, refl, ap, ◌∙◌, subst, arith}
+use Rattle.std.proofs.Common.{◌≡◌, ℕ, zero, suc, ◌-◌, ◌<◌, Bool, true, false, cond, List, [], ◌∷◌, IfOk, Ok, Err, refl, ap, ◌∙◌, subst, arith}
 use Rattle.text.specs.declared.places.Placed.{Placed}
 use Rattle.text.specs.Steps.{at}
 use Rattle.text.specs.Tokens.{Lexeme, Verdict}
 use Rattle.grammar.specs.declared.faults.GrammarFault.TheVariants.{TooDeep}
 use Rattle.grammar.specs.Grammars.{nest, Of, Tree, Inner, TreeAt}
-use Rattle.grammar.specs.Parsers.{Read, bind, passed, take_by, open_by, opening, misfit, parse, parse_in, parse_at}
-use Rattle.grammar.specs.Streams.{Stream, Refusal, from}
+use Rattle.grammar.specs.Parsers.{Read, bind, take_by, open_by, opening, misfit, parse, parse_in, parse_at}
+use Rattle.grammar.specs.Streams.{Stream, Refusal}
 use Rattle.grammar.specs.TokenClasses.{is_class}
-use Rattle.syntax.specs.Nodes.{Made, Makes, inner_made, rule_made}
+use Rattle.syntax.specs.Nodes.{inner_made, rule_made}
 use Rattle.syntax.specs.Syntax.{Rule, rule}
 use Rattle.reading.specs.declared.readers.Reader.{Reader}
 use Rattle.reading.specs.States.{stream_of, Answer, Reads, Takes, Builds}

@@ -8,7 +8,7 @@ use Rattle.table.specs.declared.kinds.Kind.TheVariants as kind
 use Rattle.table.specs.declared.nodes.Node.{Node}
 use Rattle.text.specs.Lexings.{lexed_from}
 use Rattle.text.specs.Tokens.{lexeme}
-use Rattle.grammar.specs.Grammars.{Gram, seq, tok, Of, Tree, TreeAt}
+use Rattle.grammar.specs.Grammars.{seq, tok, Of, Tree, TreeAt}
 use Rattle.grammar.specs.Parsers.{Read, bind, parse, parse_at}
 use Rattle.grammar.specs.Streams.{Stream, Refusal}
 use Rattle.grammar.proofs.Inversions.{same_ok, never_ok}
@@ -16,7 +16,7 @@ use Rattle.syntax.specs.Nodes.{Made, Makes, with, over, titled, valued}
 use Rattle.syntax.specs.Syntax.{G, rule}
 use Rattle.reading.specs.declared.readers.Reader.{Reader}
 use Rattle.reading.specs.Steps.{taken, token_made, name_made}
-use Rattle.reading.specs.States.{State, stream_by, stream_of, state_of, Goes, Stays, Lends, Recorded, Answer, shown, applied, done, written, Reads, Takes, Builds}
+use Rattle.reading.specs.States.{State, stream_by, stream_of, state_of, Stays, Lends, Recorded, Answer, shown, applied, done, written, Reads, Takes, Builds}
 
 -- ---- states
 

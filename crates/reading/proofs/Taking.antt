@@ -1,22 +1,19 @@
 -- A token taken from the stream of a reader.
-use Rattle.std.proofs.Common.{◌≡◌, ℕ, zero, suc, ◌+◌, ◌<◌, Bool, true, false, cond, ◌&&◌, eqb, List, [], ◌∷◌, Ok, Err, Result, sym, refl, ap, ◌∙◌, arith}
-use Rattle.std.proofs.lemmas.Bool.{eq-eqb, eqb-true, ne_eqb, both_ways}
+use Rattle.std.proofs.Common.{◌≡◌, ℕ, ◌+◌, ◌<◌, Bool, true, false, cond, ◌&&◌, eqb, List, [], ◌∷◌, Ok, Err, sym, refl, ap, ◌∙◌, arith}
+use Rattle.std.proofs.lemmas.Bool.{eq-eqb, ne_eqb, both_ways}
 use Rattle.text.specs.declared.places.Placed.{Placed}
 use Rattle.text.specs.declared.tokens.Token.TheVariants as token
 use Rattle.text.specs.Lexings.{Lexing}
 use Rattle.text.specs.Steps.{at}
 use Rattle.text.specs.Tokens.{Lexeme, lexeme, is_end, Verdict}
-use Rattle.grammar.specs.declared.faults.GrammarFault.TheVariants.{TooDeep}
-use Rattle.grammar.specs.Grammars.{Of}
-use Rattle.grammar.specs.Parsers.{Read, passed, take_by, two, misfit}
+use Rattle.grammar.specs.Parsers.{passed, take_by, two, misfit}
 use Rattle.grammar.specs.Streams.{Stream, Refusal, from}
-use Rattle.grammar.specs.TokenClasses.{class_of, is_class, among}
+use Rattle.grammar.specs.TokenClasses.{class_of, is_class}
 use Rattle.grammar.proofs.Inversions.{never_ok, passed_on}
-use Rattle.syntax.specs.Nodes.{Made, Makes, name_length}
 use Rattle.reading.specs.declared.readers.Reader.{Reader}
-use Rattle.reading.specs.States.{stream_by, stream_of, state_of, Lends, Answer, applied, done, written, Reads, Takes}
-use Rattle.reading.specs.Steps.{tail_of, front_of, misfit_of, taken, opened, opened_in, any_taken, token_made, name_made, mark_made}
-use Rattle.reading.proofs.Sequences.{got, refused, count_is}
+use Rattle.reading.specs.States.{stream_by, stream_of, state_of, Lends, applied, written, Reads, Takes}
+use Rattle.reading.specs.Steps.{tail_of, front_of, misfit_of, taken, token_made, name_made}
+use Rattle.reading.proofs.Sequences.{refused}
 
 -- the class of the token ahead is that of the stream
 pub front_class_lem : (t : Lexeme) (p : ℕ) (l : Lexing) → front_of (stream_by t p l) ≡ class_of t

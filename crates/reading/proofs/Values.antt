@@ -1,14 +1,14 @@
 -- Numbers: their values, and a `-` that belongs to one.
 use Rattle.std.proofs.Common.{◌≡◌, ℕ, zero, suc, ◌≤◌, Bool, true, false, cond, eqb, leb, List, [], ◌∷◌, ℤ, pos, Ok, Err, Result, sym, refl, ap, ◌∙◌, subst, arith, w32, SFits, to_z, of_z}
 use Rattle.std.proofs.lemmas.Int.{to_z-of_z, to_z_pos}
-use Rattle.std.proofs.lemmas.Bool.{leb-true, eqb-true, both_ways}
+use Rattle.std.proofs.lemmas.Bool.{leb-true, eqb-true}
 use Rattle.text.specs.declared.places.Placed.{Placed}
 use Rattle.text.specs.declared.tokens.LexFault.TheVariants.{NumberTooLarge}
 use Rattle.text.specs.declared.tokens.Token.TheVariants as token
 use Rattle.text.specs.Lexings.{Lexing}
 use Rattle.text.specs.Steps.{at}
 use Rattle.text.specs.Tokens.{Lexeme, lexeme, is_end, Verdict}
-use Rattle.grammar.specs.declared.faults.GrammarFault.TheVariants.{Lexical, Misfit, TooDeep}
+use Rattle.grammar.specs.declared.faults.GrammarFault.TheVariants.{Lexical, Misfit}
 use Rattle.grammar.specs.Grammars.{joint, Of, OneOf, Tree, TreeAt}
 use Rattle.grammar.specs.Parsers.{Read, passed, take_by, take_joint_by, second, second_by, misfit, parse, parse_at}
 use Rattle.grammar.specs.Streams.{Stream, Refusal, from}

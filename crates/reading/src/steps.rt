@@ -101,7 +101,7 @@ impl<'s, 't> Reader<'s, 't> {
         if allowed > 0 {
             return self.take(class);
         }
-        if is_end(self.token) || self.class() != class {
+        if self.class() != class || is_end(self.token) {
             return Err(self.misfit());
         }
         Err(Placed {

@@ -24,13 +24,13 @@ invariant_of-self c =
     record {
       short = subst (λ s. length s.now ≤ 16384) (sym c.in-Ok.ensures.source) self.short;
       few = omega arith;
-      reached = p.1;
+      behind = p.1;
       onward = p.3;
       fits = next_fits lexer.place after.place _ _ c.in-Ok.ensures.stepped.lawful;
     }
 
-pub invariant_of-self-in-Err : goal.invariant_of-self-in-Err
-invariant_of-self-in-Err c =
+pub invariant_of-self-in-Err-1 : goal.invariant_of-self-in-Err-1
+invariant_of-self-in-Err-1 c =
     let self = c.args.self.now in
     let lexer = self.lexer in
     let later = refused_place lexer.source.now lexer.place c.next_token.new.self.place _ c.in-Err.ensures.stepped.lawful in
@@ -38,7 +38,7 @@ invariant_of-self-in-Err c =
     record {
       short = subst (λ s. length s.now ≤ 16384) (sym c.in-Err.ensures.source) self.short;
       few = self.few;
-      reached = omega arith;
+      behind = omega arith;
       onward = λ _. omega arith;
       fits = self.fits;
     }

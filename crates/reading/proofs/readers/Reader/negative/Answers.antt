@@ -1,6 +1,6 @@
 use Rattle.std.proofs.Common.{◌≤◌, Err, sym, refl, ap, ◌∙◌, subst}
 use Rattle.text.specs.Tokens.{lexeme}
-use Rattle.syntax.specs.Nodes.{magnitude, minus}
+use Rattle.syntax.specs.Nodes.{minus}
 use Rattle.reading.specs.States.{of_node}
 use Rattle.reading.proofs.Sequences.{exit_node, refuse_as, refused, node, valued_is}
 use Rattle.reading.proofs.Values.{joint_refused, joined, not_joined, negative_value, magnitude_fits}
