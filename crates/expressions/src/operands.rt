@@ -10,11 +10,11 @@ ghost use Rattle.reading.specs.Nests.{nest_made, rule_at};
 ghost use Rattle.expressions.specs.Rules.{arguments_gram, arguments_made};
 
 use crate::layers::{Layer, operator_kind};
-use reading::classes::{
-    AT_MOST, CLOSE, COMMA, EQUAL, FALSE, HASH, IN, LESS, MAX, MIN, MINUS, NAME, NOT, NUMBER, OPEN,
-    TRUE, among,
-};
+use grammar::classing::{NAME, NUMBER};
 use grammar::faults::GrammarFault;
+use reading::classes::{
+    AT_MOST, CLOSE, COMMA, EQUAL, FALSE, HASH, IN, LESS, MAX, MIN, MINUS, NOT, OPEN, TRUE, among,
+};
 use reading::nodes::{over, titled};
 use reading::readers::{Numbered, Reader};
 use table::kinds::Kind;
@@ -26,7 +26,7 @@ pub const EXPRESSION_START: [u8; 10] = [
 ];
 
 /// An expression.
-#[cycle(arguments_closed_arguments_compared_comparison_denial_enclosed_expression_expressions_layered_named_negation_operand_operation_parentheses_tighter)]
+#[cycle(group)]
 pub fn expression(
     reader: &mut Reader<'_, '_>,
     allowed: u8,
@@ -37,7 +37,7 @@ pub fn expression(
 }
 
 /// Operands with the operators of a layer between them.
-#[cycle(arguments_closed_arguments_compared_comparison_denial_enclosed_expression_expressions_layered_named_negation_operand_operation_parentheses_tighter)]
+#[cycle(group)]
 fn layered(
     reader: &mut Reader<'_, '_>,
     layer: Layer,
@@ -53,7 +53,7 @@ fn layered(
 }
 
 /// An operator of a layer and its right operand: a node over that and the left one.
-#[cycle(arguments_closed_arguments_compared_comparison_denial_enclosed_expression_expressions_layered_named_negation_operand_operation_parentheses_tighter)]
+#[cycle(group)]
 fn operation(
     reader: &mut Reader<'_, '_>,
     layer: Layer,
@@ -68,7 +68,7 @@ fn operation(
 }
 
 /// What stands between the operators of a layer.
-#[cycle(arguments_closed_arguments_compared_comparison_denial_enclosed_expression_expressions_layered_named_negation_operand_operation_parentheses_tighter)]
+#[cycle(group)]
 fn tighter(
     reader: &mut Reader<'_, '_>,
     layer: Layer,
@@ -84,7 +84,7 @@ fn tighter(
 }
 
 /// A comparison, with a `!` before it or without.
-#[cycle(arguments_closed_arguments_compared_comparison_denial_enclosed_expression_expressions_layered_named_negation_operand_operation_parentheses_tighter)]
+#[cycle(group)]
 fn negation(reader: &mut Reader<'_, '_>, allowed: u8) -> Result<Numbered, Placed<GrammarFault>>
     ensures { Builds (negation_made (inner_made allowed)) (parse_at rule allowed negation (stream_of reader.old)) reader.old (shown of_node result) reader.new }
 {
@@ -96,7 +96,7 @@ fn negation(reader: &mut Reader<'_, '_>, allowed: u8) -> Result<Numbered, Placed
 }
 
 /// A `!` and what it denies.
-#[cycle(arguments_closed_arguments_compared_comparison_denial_enclosed_expression_expressions_layered_named_negation_operand_operation_parentheses_tighter)]
+#[cycle(group)]
 fn denial(reader: &mut Reader<'_, '_>, allowed: u8) -> Result<Numbered, Placed<GrammarFault>>
     ensures { Builds (nest_made allowed 47 negated) (parse_at rule allowed (nest 47 negated) (stream_of reader.old)) reader.old (shown of_node result) reader.new }
 {
@@ -106,7 +106,7 @@ fn denial(reader: &mut Reader<'_, '_>, allowed: u8) -> Result<Numbered, Placed<G
 }
 
 /// Sums with comparisons between them.
-#[cycle(arguments_closed_arguments_compared_comparison_denial_enclosed_expression_expressions_layered_named_negation_operand_operation_parentheses_tighter)]
+#[cycle(group)]
 fn comparison(reader: &mut Reader<'_, '_>, allowed: u8) -> Result<Numbered, Placed<GrammarFault>>
     ensures { Builds (comparison_made (inner_made allowed)) (parse_at rule allowed comparison (stream_of reader.old)) reader.old (shown of_node result) reader.new }
 {
@@ -118,7 +118,7 @@ fn comparison(reader: &mut Reader<'_, '_>, allowed: u8) -> Result<Numbered, Plac
 }
 
 /// A comparison's sign and its right side: a node over that and the left one.
-#[cycle(arguments_closed_arguments_compared_comparison_denial_enclosed_expression_expressions_layered_named_negation_operand_operation_parentheses_tighter)]
+#[cycle(group)]
 fn compared(
     reader: &mut Reader<'_, '_>,
     left: u16,
@@ -137,7 +137,7 @@ fn compared(
 }
 
 /// An operand.
-#[cycle(arguments_closed_arguments_compared_comparison_denial_enclosed_expression_expressions_layered_named_negation_operand_operation_parentheses_tighter)]
+#[cycle(group)]
 fn operand(reader: &mut Reader<'_, '_>, allowed: u8) -> Result<Numbered, Placed<GrammarFault>>
     ensures { Builds (operand_made (inner_made allowed)) (parse_at rule allowed operand (stream_of reader.old)) reader.old (shown of_node result) reader.new }
 {
@@ -155,7 +155,7 @@ fn operand(reader: &mut Reader<'_, '_>, allowed: u8) -> Result<Numbered, Placed<
 }
 
 /// A variable, or a call with its arguments.
-#[cycle(arguments_closed_arguments_compared_comparison_denial_enclosed_expression_expressions_layered_named_negation_operand_operation_parentheses_tighter)]
+#[cycle(group)]
 fn named(reader: &mut Reader<'_, '_>, allowed: u8) -> Result<Numbered, Placed<GrammarFault>>
     ensures { Builds (named_made (inner_made allowed)) (parse_at rule allowed named (stream_of reader.old)) reader.old (shown of_node result) reader.new }
 {
@@ -168,7 +168,7 @@ fn named(reader: &mut Reader<'_, '_>, allowed: u8) -> Result<Numbered, Placed<Gr
 }
 
 /// The arguments of a call, with the parentheses around them: the number of the first.
-#[cycle(arguments_closed_arguments_compared_comparison_denial_enclosed_expression_expressions_layered_named_negation_operand_operation_parentheses_tighter)]
+#[cycle(group)]
 fn arguments(reader: &mut Reader<'_, '_>, allowed: u8) -> Result<u16, Placed<GrammarFault>>
     ensures { Reads (nest_made allowed 38 arguments) (parse_at rule allowed (nest 38 arguments) (stream_of reader.old)) reader.old (shown of_list result) reader.new }
 {
@@ -177,7 +177,7 @@ fn arguments(reader: &mut Reader<'_, '_>, allowed: u8) -> Result<u16, Placed<Gra
 }
 
 /// The arguments of a call and the parenthesis that closes them.
-#[cycle(arguments_closed_arguments_compared_comparison_denial_enclosed_expression_expressions_layered_named_negation_operand_operation_parentheses_tighter)]
+#[cycle(group)]
 fn closed_arguments(reader: &mut Reader<'_, '_>, allowed: u8) -> Result<u16, Placed<GrammarFault>>
     ensures { (p : ℕ) → Reads (rule_at allowed arguments p) (parse_at rule allowed (rule arguments) (stream_of reader.old)) reader.old (shown of_list result) reader.new }
 {
@@ -187,7 +187,7 @@ fn closed_arguments(reader: &mut Reader<'_, '_>, allowed: u8) -> Result<u16, Pla
 }
 
 /// Expressions with commas between them, or none.
-#[cycle(arguments_closed_arguments_compared_comparison_denial_enclosed_expression_expressions_layered_named_negation_operand_operation_parentheses_tighter)]
+#[cycle(group)]
 fn expressions(reader: &mut Reader<'_, '_>, allowed: u8) -> Result<u16, Placed<GrammarFault>>
     ensures { Reads (arguments_made allowed) (parse_at rule allowed arguments_gram (stream_of reader.old)) reader.old (shown of_list result) reader.new }
 {
@@ -205,7 +205,7 @@ fn expressions(reader: &mut Reader<'_, '_>, allowed: u8) -> Result<u16, Placed<G
 }
 
 /// An expression in parentheses.
-#[cycle(arguments_closed_arguments_compared_comparison_denial_enclosed_expression_expressions_layered_named_negation_operand_operation_parentheses_tighter)]
+#[cycle(group)]
 fn parentheses(reader: &mut Reader<'_, '_>, allowed: u8) -> Result<Numbered, Placed<GrammarFault>>
     ensures { Builds (nest_made allowed 38 parentheses) (parse_at rule allowed (nest 38 parentheses) (stream_of reader.old)) reader.old (shown of_node result) reader.new }
 {
@@ -214,7 +214,7 @@ fn parentheses(reader: &mut Reader<'_, '_>, allowed: u8) -> Result<Numbered, Pla
 }
 
 /// An expression and the parenthesis that closes it.
-#[cycle(arguments_closed_arguments_compared_comparison_denial_enclosed_expression_expressions_layered_named_negation_operand_operation_parentheses_tighter)]
+#[cycle(group)]
 fn enclosed(reader: &mut Reader<'_, '_>, allowed: u8) -> Result<Numbered, Placed<GrammarFault>>
     ensures { (p : ℕ) → Builds (rule_at allowed parentheses p) (parse_at rule allowed (rule parentheses) (stream_of reader.old)) reader.old (shown of_node result) reader.new }
 {

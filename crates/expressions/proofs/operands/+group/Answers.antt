@@ -6,7 +6,7 @@ use Rattle.grammar.specs.TokenClasses.{class_of, among}
 use Rattle.syntax.specs.Nodes.{inner_made, rule_made, operand_made, named_made, negation_made, expression_made, operator_kind, chosen}
 use Rattle.syntax.specs.Syntax.{rule, arguments, parentheses, negated, compared, comparison, negation, operand, named}
 use Rattle.reading.specs.Nests.{nest_made, rule_at}
-use Rattle.reading.specs.States.{of_node, of_list}
+use Rattle.reading.specs.States.{stream_of, of_node, of_list}
 use Rattle.reading.specs.Steps.{of_variable_made}
 use Rattle.reading.proofs.Branches.{as_branch, as_last, build_leaf, on_branch, on_first, on_last, on_nil, inject, inject_by, inject_last, left_tree, right_tree, nothing, none_of}
 use Rattle.reading.proofs.Loops.{turns, fails, ends, joins}
@@ -17,7 +17,7 @@ use Rattle.expressions.specs.declared.layers.Layer.TheVariants as layer
 use Rattle.expressions.specs.Layers.{first_sign, other_signs, turn_gram, layer_gram, turn_made, compared_made_over}
 use Rattle.expressions.specs.Rules.{arguments_gram, arguments_made}
 use Rattle.expressions.proofs.Chains.{layer_item, layer_turns, compared_item, compared_turns, argument_item, argument_gram, argument_made, from_product, from_operand, from_negation, to_expression, to_sum, tighter_as, take_signs, layer_begins, layered_start, comparison_start, arguments_start, argument_read, arguments_rule, denial_ok, denial_stop}
-use Rattle.expressions.proofs.operands.+arguments_closed_arguments_compared_comparison_denial_enclosed_expression_expressions_layered_named_negation_operand_operation_parentheses_tighter.Goals as goal
+use Rattle.expressions.proofs.operands.+group.Goals as goal
 
 -- ---- layers
 
@@ -40,13 +40,13 @@ pub layered-returns-in_err-left-2 : goal.layered-returns-in_err-left-2
 layered-returns-in_err-left-2 t c =
     let l = c.args.layer in
     let w = c.loop-layer.invariant.0 _ _ (layered_start c.args.allowed l c.in_ok-left.ensures.reads) in
-    let begins = layer_begins l _ _ _ _ c.signs.ensures c.class.ensures c.among.ensures ∙ c.loop-layer-test.true in
+    let begins = layer_begins l _ _ _ (stream_of c.loop-layer.reader) c.signs.ensures c.class.ensures c.among.ensures ∙ c.loop-layer-test.true in
     exit_node of_node _ c.from_residual-in_err-left-2.ensures.1 (fails (layer_item l) w begins c.in_err-left-2.ensures.reads)
 
 pub layered-loop-layer-preserved : goal.layered-loop-layer-preserved
 layered-loop-layer-preserved t c =
     let l = c.args.layer in
-    let begins = layer_begins l _ _ _ _ c.signs.ensures c.class.ensures c.among.ensures ∙ c.loop-layer-test.true in
+    let begins = layer_begins l _ _ _ (stream_of c.loop-layer.reader) c.signs.ensures c.class.ensures c.among.ensures ∙ c.loop-layer-test.true in
     let told = c.in_ok-left-2.ensures in
     let below = c.loop-layer.invariant.1.1 in
     let more = told.last.1 in
@@ -57,7 +57,7 @@ layered-returns t c =
     let l = c.args.layer in
     let told = c.in_ok-left.ensures in
     let w = c.loop-layer.invariant.0 _ _ (layered_start c.args.allowed l told.reads) in
-    let stops = layer_begins l _ _ _ _ c.signs.ensures c.class.ensures c.among.ensures ∙ c.loop-layer-test.false in
+    let stops = layer_begins l _ _ _ (stream_of c.loop-layer.reader) c.signs.ensures c.class.ensures c.among.ensures ∙ c.loop-layer-test.false in
     let below = c.loop-layer.invariant.1.1 in
     let more = told.last.1 in
     record { reads = ends (layer_item l) w stops; last = (c.loop-layer.invariant.1.0, omega arith) }
@@ -205,9 +205,16 @@ operand-returns-in-44 t c = as_branch c.args.allowed 44 operand (operand_made (i
 pub operand-returns-in_default : goal.operand-returns-in_default
 unfolding Tree operand_made nest_made inject_last right_tree
 operand-returns-in_default t c =
-    let e = c.class.ensures in
+    let no52 : c.class.result ≡ 52 → ⊥ = λ h. search rules in
+    let no41 : c.class.result ≡ 41 → ⊥ = λ h. search rules in
+    let no21 : c.class.result ≡ 21 → ⊥ = λ h. search rules in
+    let no22 : c.class.result ≡ 22 → ⊥ = λ h. search rules in
+    let no51 : c.class.result ≡ 51 → ⊥ = λ h. search rules in
+    let no23 : c.class.result ≡ 23 → ⊥ = λ h. search rules in
+    let no24 : c.class.result ≡ 24 → ⊥ = λ h. search rules in
+    let no44 : c.class.result ≡ 44 → ⊥ = λ h. search rules in
     as_last c.args.allowed operand (operand_made (inner_made c.args.allowed))
-    (none_of _ (52 ∷ (41 ∷ (21 ∷ (22 ∷ (51 ∷ (23 ∷ (24 ∷ (44 ∷ [])))))))) ((λ h. search rules), ((λ h. search rules), ((λ h. search rules), ((λ h. search rules), ((λ h. search rules), ((λ h. search rules), ((λ h. search rules), ((λ h. search rules), tt)))))))))
+    (ap (among (52 ∷ (41 ∷ (21 ∷ (22 ∷ (51 ∷ (23 ∷ (24 ∷ (44 ∷ []))))))))) (sym c.class.ensures) ∙ none_of c.class.result (52 ∷ (41 ∷ (21 ∷ (22 ∷ (51 ∷ (23 ∷ (24 ∷ (44 ∷ [])))))))) (no52, (no41, (no21, (no22, (no51, (no23, (no24, (no44, tt)))))))))
     (λ x n. refl) c.parentheses.ensures
 
 pub named-returns-in_err-name : goal.named-returns-in_err-name
@@ -234,13 +241,13 @@ named-returns t c =
 
 -- ---- arguments
 
-pub arguments-returns-in_err--place : goal.arguments-returns-in_err--place
-arguments-returns-in_err--place t c = exit of_list _ c.from_residual.ensures.1 (not_opened c.args.allowed 38 arguments c.in_err--place.ensures.takes)
+pub arguments-returns-in_err-_place : goal.arguments-returns-in_err-_place
+arguments-returns-in_err-_place t c = exit of_list _ c.from_residual.ensures.1 (not_opened c.args.allowed 38 arguments c.in_err-_place.ensures.takes)
 
 pub arguments-returns : goal.arguments-returns
 arguments-returns t c =
-    let o = c.in_ok--place.ensures in
-    opens c.args.allowed 38 arguments o.allows o.takes (c.closed_arguments.ensures c.in_ok--place.-place)
+    let o = c.in_ok-_place.ensures in
+    opens c.args.allowed 38 arguments o.allows o.takes (c.closed_arguments.ensures c.in_ok-_place._place)
 
 pub closed_arguments-returns-in_err-first : goal.closed_arguments-returns-in_err-first
 closed_arguments-returns-in_err-first t c = λ p. exit of_list _ c.from_residual.ensures.1 (stop (begin c.args.allowed (rule arguments) c.args.reader.now) c.in_err-first.ensures)
@@ -282,13 +289,13 @@ expressions-returns t c = ?
 
 -- ---- parentheses
 
-pub parentheses-returns-in_err--place : goal.parentheses-returns-in_err--place
-parentheses-returns-in_err--place t c = exit_node of_node _ c.from_residual.ensures.1 (not_opened c.args.allowed 38 parentheses c.in_err--place.ensures.takes)
+pub parentheses-returns-in_err-_place : goal.parentheses-returns-in_err-_place
+parentheses-returns-in_err-_place t c = exit_node of_node _ c.from_residual.ensures.1 (not_opened c.args.allowed 38 parentheses c.in_err-_place.ensures.takes)
 
 pub parentheses-returns : goal.parentheses-returns
 parentheses-returns t c =
-    let o = c.in_ok--place.ensures in
-    opens_node c.args.allowed 38 parentheses o.allows o.takes (c.enclosed.ensures c.in_ok--place.-place)
+    let o = c.in_ok-_place.ensures in
+    opens_node c.args.allowed 38 parentheses o.allows o.takes (c.enclosed.ensures c.in_ok-_place._place)
 
 pub enclosed-returns-in_err-inner : goal.enclosed-returns-in_err-inner
 enclosed-returns-in_err-inner t c = λ p. exit_node of_node _ c.from_residual.ensures.1 (stop (begin c.args.allowed (rule parentheses) c.args.reader.now) c.in_err-inner.ensures.reads)

@@ -1,7 +1,7 @@
 use Rattle.std.proofs.Common.{◌+◌, ◌-◌, ◌*◌, ◌<◌, ◌≤◌}
 use Rattle.expressions.specs.Layers.{rank}
 use Rattle.expressions.proofs.Chains.{LayerRuns, ComparisonRuns, ArgumentRuns, OnTop}
-use Rattle.expressions.proofs.operands.+arguments_closed_arguments_compared_comparison_denial_enclosed_expression_expressions_layered_named_negation_operand_operation_parentheses_tighter.Given as goal
+use Rattle.expressions.proofs.operands.+group.Given as goal
 
 abbrev pub decreases-arguments : goal.decreases-arguments
 decreases-arguments l = 32 * l.allowed + 1
