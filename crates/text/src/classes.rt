@@ -15,7 +15,7 @@ pub const SIGN: u8 = 4;
 /// `{`, which begins a comment.
 pub const BRACE: u8 = 5;
 
-/// The class of each byte, sixteen to a row.
+/// The class of each byte, thirty-two to a row.
 const CLASSES: [u8; 256] = [
     0, 0, 0, 0, 0, 0, 0, 0, 0, 1, 1, 0, 0, 1, 0, 0, 0, 0, 0, 0, 0, 0, 0, 0, 0, 0, 0, 0, 0, 0, 0, 0,
     1, 4, 0, 4, 0, 0, 4, 0, 4, 4, 4, 4, 4, 4, 0, 4, 3, 3, 3, 3, 3, 3, 3, 3, 3, 3, 4, 4, 4, 4, 0, 0,
