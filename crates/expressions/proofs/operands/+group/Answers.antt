@@ -276,16 +276,44 @@ expressions-returns-in_err-first t c =
     exit of_list _ c.from_residual.ensures.1 (stop (on_first (begin c.args.allowed arguments_gram c.args.reader.now) some) c.in_err-first.ensures.reads)
 
 pub expressions-returns-in_err-take : goal.expressions-returns-in_err-take
-expressions-returns-in_err-take t c = ?
+expressions-returns-in_err-take t c =
+    let some = ap (among (47 ∷ (52 ∷ (41 ∷ (21 ∷ (22 ∷ (51 ∷ (23 ∷ (24 ∷ (44 ∷ (38 ∷ []))))))))))) (sym c.class.ensures) ∙ sym c.among.ensures ∙ c.if-not-among.false in
+    let told = c.in_ok-first.ensures in
+    let top = told.last.0 in
+    let more = told.last.1 in
+    let w = c.loop-reader.invariant _ _ (arguments_start c.args.allowed some told.reads top more) in
+    let comma = ap (among (37 ∷ [])) (sym c.class-in-loop-reader.ensures ∙ c.loop-reader-test.true) in
+    exit of_list _ c.from_residual-in_err-take.ensures.1 (fails argument_item w.going comma (stop_token {out = argument_made c.args.allowed} (begin c.args.allowed argument_gram c.loop-reader.reader) c.in_err-take.ensures))
 
 pub expressions-returns-in_err-next : goal.expressions-returns-in_err-next
-expressions-returns-in_err-next t c = ?
+expressions-returns-in_err-next t c =
+    let some = ap (among (47 ∷ (52 ∷ (41 ∷ (21 ∷ (22 ∷ (51 ∷ (23 ∷ (24 ∷ (44 ∷ (38 ∷ []))))))))))) (sym c.class.ensures) ∙ sym c.among.ensures ∙ c.if-not-among.false in
+    let told = c.in_ok-first.ensures in
+    let top = told.last.0 in
+    let more = told.last.1 in
+    let w = c.loop-reader.invariant _ _ (arguments_start c.args.allowed some told.reads top more) in
+    let comma = ap (among (37 ∷ [])) (sym c.class-in-loop-reader.ensures ∙ c.loop-reader-test.true) in
+    let s = past_token (begin c.args.allowed argument_gram c.loop-reader.reader) c.in_ok-take.ensures in
+    exit of_list _ c.from_residual-in_err-next.ensures.1 (fails argument_item w.going comma (stop_last {out = argument_made c.args.allowed} s.more c.in_err-next.ensures.reads))
 
 pub expressions-loop-reader-preserved : goal.expressions-loop-reader-preserved
-expressions-loop-reader-preserved t c = ?
+expressions-loop-reader-preserved t c = λ R a w.
+    let g = c.loop-reader.invariant R a w in
+    let comma = ap (among (37 ∷ [])) (sym c.class-in-loop-reader.ensures ∙ c.loop-reader-test.true) in
+    let taken = c.in_ok-take.ensures in
+    let told = c.in_ok-next.ensures in
+    let kept = taken.steps.0 in
+    let more = told.last.1 in
+    joins argument_item g comma (argument_read c.args.allowed taken told.reads) told.last.0 (omega arith) c.nodes-last.ensures c.chain-first.ensures (λ x. refl)
 
 pub expressions-returns : goal.expressions-returns
-expressions-returns t c = ?
+expressions-returns t c =
+    let some = ap (among (47 ∷ (52 ∷ (41 ∷ (21 ∷ (22 ∷ (51 ∷ (23 ∷ (24 ∷ (44 ∷ (38 ∷ []))))))))))) (sym c.class.ensures) ∙ sym c.among.ensures ∙ c.if-not-among.false in
+    let told = c.in_ok-first.ensures in
+    let top = told.last.0 in
+    let more = told.last.1 in
+    let w = c.loop-reader.invariant _ _ (arguments_start c.args.allowed some told.reads top more) in
+    ends argument_item w.going (none_of _ (37 ∷ []) ((λ e. c.loop-reader-test.false (c.class-in-loop-reader.ensures ∙ e)), tt))
 
 -- ---- parentheses
 
