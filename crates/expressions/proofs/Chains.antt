@@ -135,10 +135,12 @@ pub comparison_start : (d : ℕ) {a m : Reader} {i p : ℕ} → Reads (sum_made 
 unfolding Tree comparison_made items pair
 comparison_start d {a} r = let s = first (begin d comparison a) r in goes_from (sum_made (inner_made d) s.tree a.count) s.more (λ xs. refl) s.number s.place
 
-pub arguments_start : (d : ℕ) {a m : Reader} {i p : ℕ} → among (firsts expression) (front_of (stream_of a)) ≡ true → Reads (expression_made (inner_made d)) (parse_at rule d expression (stream_of a)) a (Ok (i, p)) m → i ≡ m.count → a.count < m.count → Listing (arguments_made d) (parse_at rule d arguments_gram (stream_of a)) a m d argument_gram (appended (argument_made d) a.count) i
+pub arguments_start : (d : ℕ) {a m : Reader} {i p : ℕ} → among (firsts expression) (front_of (stream_of a)) ≡ true → Builds (expression_made (inner_made d)) (parse_at rule d expression (stream_of a)) a (Ok (i, p)) m → Listing (arguments_made d) (parse_at rule d arguments_gram (stream_of a)) a m d argument_gram (appended (argument_made d) a.count) i
 unfolding Tree arguments_made argument_made items pair left_tree
-arguments_start d {a} begins r top more =
-    let s = first (on_first (begin d arguments_gram a) begins) r in
+arguments_start d {a} begins r =
+    let s = first (on_first (begin d arguments_gram a) begins) r.reads in
+    let top = r.last.0 in
+    let more = r.last.1 in
     lists_on (linked none (expression_made (inner_made d) s.tree a.count)) s.more (λ xs. refl) s.number refl (omega arith) more
 
 -- a comma and an argument

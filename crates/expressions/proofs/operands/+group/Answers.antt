@@ -278,20 +278,14 @@ expressions-returns-in_err-first t c =
 pub expressions-returns-in_err-take : goal.expressions-returns-in_err-take
 expressions-returns-in_err-take t c =
     let some = ap (among (47 ∷ (52 ∷ (41 ∷ (21 ∷ (22 ∷ (51 ∷ (23 ∷ (24 ∷ (44 ∷ (38 ∷ []))))))))))) (sym c.class.ensures) ∙ sym c.among.ensures ∙ c.if-not-among.false in
-    let told = c.in_ok-first.ensures in
-    let top = told.last.0 in
-    let more = told.last.1 in
-    let w = c.loop-reader.invariant _ _ (arguments_start c.args.allowed some told.reads top more) in
+    let w = c.loop-reader.invariant _ _ (arguments_start c.args.allowed some c.in_ok-first.ensures) in
     let comma = ap (among (37 ∷ [])) (sym c.class-in-loop-reader.ensures ∙ c.loop-reader-test.true) in
     exit of_list _ c.from_residual-in_err-take.ensures.1 (fails argument_item w.going comma (stop_token {out = argument_made c.args.allowed} (begin c.args.allowed argument_gram c.loop-reader.reader) c.in_err-take.ensures))
 
 pub expressions-returns-in_err-next : goal.expressions-returns-in_err-next
 expressions-returns-in_err-next t c =
     let some = ap (among (47 ∷ (52 ∷ (41 ∷ (21 ∷ (22 ∷ (51 ∷ (23 ∷ (24 ∷ (44 ∷ (38 ∷ []))))))))))) (sym c.class.ensures) ∙ sym c.among.ensures ∙ c.if-not-among.false in
-    let told = c.in_ok-first.ensures in
-    let top = told.last.0 in
-    let more = told.last.1 in
-    let w = c.loop-reader.invariant _ _ (arguments_start c.args.allowed some told.reads top more) in
+    let w = c.loop-reader.invariant _ _ (arguments_start c.args.allowed some c.in_ok-first.ensures) in
     let comma = ap (among (37 ∷ [])) (sym c.class-in-loop-reader.ensures ∙ c.loop-reader-test.true) in
     let s = past_token (begin c.args.allowed argument_gram c.loop-reader.reader) c.in_ok-take.ensures in
     exit of_list _ c.from_residual-in_err-next.ensures.1 (fails argument_item w.going comma (stop_last {out = argument_made c.args.allowed} s.more c.in_err-next.ensures.reads))
@@ -309,10 +303,7 @@ expressions-loop-reader-preserved t c = λ R a w.
 pub expressions-returns : goal.expressions-returns
 expressions-returns t c =
     let some = ap (among (47 ∷ (52 ∷ (41 ∷ (21 ∷ (22 ∷ (51 ∷ (23 ∷ (24 ∷ (44 ∷ (38 ∷ []))))))))))) (sym c.class.ensures) ∙ sym c.among.ensures ∙ c.if-not-among.false in
-    let told = c.in_ok-first.ensures in
-    let top = told.last.0 in
-    let more = told.last.1 in
-    let w = c.loop-reader.invariant _ _ (arguments_start c.args.allowed some told.reads top more) in
+    let w = c.loop-reader.invariant _ _ (arguments_start c.args.allowed some c.in_ok-first.ensures) in
     ends argument_item w.going (none_of _ (37 ∷ []) ((λ e. c.loop-reader-test.false (c.class-in-loop-reader.ensures ∙ e)), tt))
 
 -- ---- parentheses
