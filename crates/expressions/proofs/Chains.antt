@@ -1,17 +1,17 @@
 -- Operators of a layer one after another, arguments, and what is denied: what each turn makes.
-use Rattle.std.proofs.Common.{◌≡◌, ℕ, zero, suc, ◌+◌, ◌-◌, ◌<◌, ◌≤◌, Bool, true, false, List, [], ◌∷◌, ◌++◌, length, Ok, Err, sym, refl, ap, ◌∙◌, subst, inl, inr, arith}
+use Rattle.std.proofs.Common.{◌≡◌, ℕ, zero, suc, ◌+◌, ◌-◌, ◌<◌, ◌≤◌, Bool, true, List, [], ◌∷◌, ◌++◌, length, Ok, Err, sym, refl, ap, ◌∙◌, subst, inl, inr, arith}
 use Rattle.std.proofs.lemmas.List.{length-append, append_assoc}
 use Rattle.table.specs.declared.kinds.Kind.{Kind}
 use Rattle.table.specs.declared.kinds.Kind.TheVariants as kind
 use Rattle.table.specs.declared.nodes.Node.{Node}
 use Rattle.text.specs.declared.spellings.Sign.TheVariants as mark
-use Rattle.grammar.specs.Firsts.{nullable, firsts, apart}
-use Rattle.grammar.specs.Grammars.{Gram, seq, many, nest, Tree, TreeAt, Inner}
+use Rattle.grammar.specs.Firsts.{firsts}
+use Rattle.grammar.specs.Grammars.{seq, nest, Tree, TreeAt, Inner}
 use Rattle.grammar.specs.Parsers.{Read, parse_at}
 use Rattle.grammar.specs.Streams.{Stream, Refusal}
 use Rattle.grammar.specs.TokenClasses.{among}
 use Rattle.syntax.specs.Nodes.{Made, Makes, after, with, over, joining, operated, chosen, inner_made, rule_made, operand_made, product_made, sum_made, compared_made, comparison_made, negation_made, expression_made, variable, appended, linked, none}
-use Rattle.syntax.specs.Syntax.{G, rule, any_of, arguments, negated, operand, sum, compared, comparison, negation, expression, sign}
+use Rattle.syntax.specs.Syntax.{G, rule, arguments, negated, operand, sum, compared, comparison, negation, expression, sign}
 use Rattle.reading.specs.declared.readers.Reader.{Reader}
 use Rattle.reading.specs.Nests.{nest_made, rule_at}
 use Rattle.reading.specs.States.{stream_of, Recorded, Answer, Reads, Takes, Builds}

@@ -1,7 +1,7 @@
 -- Layers of operators.
 use Rattle.std.specs.Prelude.{ℕ, List, [], ◌∷◌}
 use Rattle.grammar.specs.Grammars.{seq, many, Tree}
-use Rattle.syntax.specs.Nodes.{Acts, Makes, Made, after, with, over, chained, chosen, operator_kind, operand_made, product_made, negation_made, variable, sum_made}
+use Rattle.syntax.specs.Nodes.{Acts, Makes, with, over, chained, chosen, operator_kind, operand_made, product_made, negation_made, variable, sum_made}
 use Rattle.grammar.specs.TokenClasses.{class_of}
 use Rattle.table.specs.declared.kinds.Kind.TheVariants as kind
 use Rattle.syntax.specs.Syntax.{G, Rule, any_of, operand, product, negation, compared}

@@ -1,5 +1,5 @@
 -- Arguments: expressions with commas between them, or none.
-use Rattle.std.specs.Prelude.{ℕ, ◌∷◌}
+use Rattle.std.specs.Prelude.{ℕ}
 use Rattle.std.proofs.Common.{inl, inr}
 use Rattle.grammar.specs.Grammars.{seq, many, Tree, TreeAt}
 use Rattle.syntax.specs.Nodes.{Makes, inner_made, expression_made, listed, linked, none}

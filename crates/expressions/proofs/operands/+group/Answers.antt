@@ -1,18 +1,17 @@
-use Rattle.std.proofs.Common.{◌≡◌, false, ◌||◌, [], ◌∷◌, sym, refl, ap, ◌∙◌, arith, rules}
-use Rattle.std.proofs.lemmas.Bool.{eq-eqb, ne_eqb}
+use Rattle.std.proofs.Common.{◌≡◌, [], ◌∷◌, sym, refl, ap, ◌∙◌, arith, rules}
 use Rattle.table.specs.declared.kinds.Kind.TheVariants as kind
-use Rattle.grammar.specs.Grammars.{seq, tok, Tree, Inner}
-use Rattle.grammar.specs.TokenClasses.{class_of, among}
-use Rattle.syntax.specs.Nodes.{inner_made, rule_made, operand_made, named_made, negation_made, expression_made, operator_kind, chosen}
+use Rattle.grammar.specs.Grammars.{Tree}
+use Rattle.grammar.specs.TokenClasses.{among}
+use Rattle.syntax.specs.Nodes.{inner_made, rule_made, operand_made, named_made, negation_made, expression_made, operator_kind}
 use Rattle.syntax.specs.Syntax.{rule, arguments, parentheses, negated, compared, comparison, negation, operand, named}
-use Rattle.reading.specs.Nests.{nest_made, rule_at}
+use Rattle.reading.specs.Nests.{nest_made}
 use Rattle.reading.specs.States.{stream_of, of_node, of_list}
 use Rattle.reading.specs.Steps.{of_variable_made}
 use Rattle.reading.proofs.Branches.{as_branch, as_last, build_leaf, on_branch, on_first, on_last, on_nil, inject, inject_by, inject_last, left_tree, right_tree, nothing, none_of}
 use Rattle.reading.proofs.Loops.{turns, fails, ends, joins}
 use Rattle.reading.proofs.Marks.{past_mark, stop_mark}
 use Rattle.reading.proofs.Nests.{not_opened, opens, opens_node}
-use Rattle.reading.proofs.Sequences.{begin, first, only, last, past_token, past_name, closed_token, stop, stop_last, stop_token, stop_last_token, as_leaf_lem, exit, exit_node, pass, node, pair, leaf_made, over_is, over_as, titled_is}
+use Rattle.reading.proofs.Sequences.{begin, first, only, past_token, past_name, closed_token, stop, stop_last, stop_token, stop_last_token, as_leaf_lem, exit, exit_node, pass, node, pair, leaf_made, over_is, over_as, titled_is}
 use Rattle.expressions.specs.declared.layers.Layer.TheVariants as layer
 use Rattle.expressions.specs.Layers.{first_sign, other_signs, turn_gram, layer_gram, turn_made, compared_made_over}
 use Rattle.expressions.specs.Rules.{arguments_gram, arguments_made}

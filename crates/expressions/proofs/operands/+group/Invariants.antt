@@ -1,4 +1,4 @@
-use Rattle.std.proofs.Common.{◌+◌, ◌-◌, ◌*◌, ◌<◌, ◌≤◌}
+use Rattle.std.proofs.Common.{◌+◌, ◌-◌, ◌*◌}
 use Rattle.expressions.specs.Layers.{rank}
 use Rattle.expressions.proofs.Chains.{LayerRuns, ComparisonRuns, ArgumentRuns, OnTop}
 use Rattle.expressions.proofs.operands.+group.Given as goal
