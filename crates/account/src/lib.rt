@@ -8,6 +8,7 @@
 ghost use Rattle.std.specs.Prelude.{◌≡◌, IfOk, string_bytes};
 ghost use Rattle.account.specs.Accounts.{refusal_number, screened, Screened, line};
 
+use refusals::Fault;
 use std::alloc::{AllocError, Global};
 use text::lexing::{TEXT_LIMIT, count_tokens};
 use text::places::Placed;
@@ -20,11 +21,10 @@ pub enum Refusal {
     Lexical(LexFault),
 }
 
-impl Refusal {
-    /// The number that the refusal is known by.
-    pub fn number(self) -> u8
-        ensures { result ≡ refusal_number self }
-    {
+impl Fault for Refusal {
+    ghost number = { refusal_number };
+
+    fn number(self) -> u8 {
         match self {
             Refusal::TextTooLong => 10,
             Refusal::Lexical(fault) => fault.number(),

@@ -1,4 +1,5 @@
 //! The tokens of a text, a line for each.
+use refusals::Fault;
 use std::alloc::{AllocError, Global};
 use text::lexing::Lexer;
 use text::places::Placed;

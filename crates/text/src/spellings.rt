@@ -11,7 +11,7 @@ pub trait Spelled: Copy {
 }
 
 /// The words that are no names.
-#[derive(Clone, Copy)]
+#[derive(Clone, Copy, PartialEq, Eq, Debug)]
 pub enum Keyword {
     Program,
     Function,
@@ -83,7 +83,7 @@ impl Spelled for Keyword {
 }
 
 /// The signs, those of two bytes first.
-#[derive(Clone, Copy)]
+#[derive(Clone, Copy, PartialEq, Eq, Debug)]
 pub enum Sign {
     Becomes,
     AtMost,

@@ -1,8 +1,8 @@
 //! Tokens, and what is no token.
-ghost use Rattle.std.specs.Prelude.{◌≡◌};
 ghost use Rattle.text.specs.Tokens.{fault_number};
 
 use crate::spellings::{Keyword, Sign};
+use refusals::Fault;
 
 /// A token; `N` is how a name is held: as a part of the text, and in definitions as its bytes.
 #[derive(Clone, Copy)]
@@ -16,7 +16,7 @@ pub enum Token<N> {
 }
 
 /// Why no token can be taken.
-#[derive(Clone, Copy)]
+#[derive(Clone, Copy, PartialEq, Eq, Debug)]
 pub enum LexFault {
     NoToken,
     CommentOpen,
@@ -24,11 +24,10 @@ pub enum LexFault {
     NameTooLong,
 }
 
-impl LexFault {
-    /// The number that the refusal is known by.
-    pub fn number(self) -> u8
-        ensures { result ≡ fault_number self }
-    {
+impl Fault for LexFault {
+    ghost number = { fault_number };
+
+    fn number(self) -> u8 {
         match self {
             LexFault::NoToken => 11,
             LexFault::CommentOpen => 12,
