@@ -4,6 +4,7 @@ ghost use Rattle.devices.specs.declared.faults.DeviceFault.TheVariants.{Store, P
 ghost use Rattle.devices.specs.Faults.{device_number, device_carries};
 
 use ports::faults::PortFault;
+use refusals::Fault;
 use sets::faults::SetFault;
 
 /// A fault with the layer that it comes from.

@@ -2,15 +2,7 @@
 ghost use Rattle.std.specs.Prelude.{◌≡◌};
 ghost use Rattle.ports.specs.Faults.{fault_number, fault_carries, range_number, malformed_number};
 
-const NONE_WAITS: u8 = 43;
-
-const NO_ROOM: u8 = 49;
-
-const OUT_OF_RANGE: u8 = 50;
-
-const REVERSED: u8 = 53;
-
-const MALFORMED: u8 = 54;
+use refusals::Fault;
 
 /// Why a port refuses to read or to write.
 #[derive(Clone, Copy, PartialEq, Eq, Debug)]
@@ -22,26 +14,26 @@ pub enum PortFault {
     OutOfRange(i32),
 }
 
-impl PortFault {
-    /// The number that the refusal is known by.
-    pub fn number(self) -> u8
-        ensures { result ≡ fault_number self }
-    {
+impl Fault for PortFault {
+    ghost number = { fault_number };
+
+    fn number(self) -> u8 {
         match self {
-            PortFault::NoneWaits => NONE_WAITS,
-            PortFault::NoRoom(_) => NO_ROOM,
-            PortFault::OutOfRange(_) => OUT_OF_RANGE,
+            PortFault::NoneWaits => 43,
+            PortFault::NoRoom(_) => 49,
+            PortFault::OutOfRange(_) => 50,
         }
     }
+}
 
+impl PortFault {
     /// The number that was to be written, or 0.
     pub fn carries(self) -> i32
         ensures { result ≡ fault_carries self }
     {
         match self {
             PortFault::NoneWaits => 0,
-            PortFault::NoRoom(n) => n,
-            PortFault::OutOfRange(n) => n,
+            PortFault::NoRoom(n) | PortFault::OutOfRange(n) => n,
         }
     }
 }
@@ -53,13 +45,12 @@ pub enum RangeFault {
     Reversed,
 }
 
-impl RangeFault {
-    /// The number that the refusal is known by.
-    pub fn number(self) -> u8
-        ensures { result ≡ range_number self }
-    {
+impl Fault for RangeFault {
+    ghost number = { range_number };
+
+    fn number(self) -> u8 {
         match self {
-            RangeFault::Reversed => REVERSED,
+            RangeFault::Reversed => 53,
         }
     }
 }
@@ -71,11 +62,10 @@ pub struct Malformed {
     pub place: usize,
 }
 
-impl Malformed {
-    /// The number that the fault is known by.
-    pub fn number(self) -> u8
-        ensures { result ≡ malformed_number self }
-    {
-        MALFORMED
+impl Fault for Malformed {
+    ghost number = { malformed_number };
+
+    fn number(self) -> u8 {
+        54
     }
 }

@@ -3,6 +3,7 @@ use crate::fences::{Fence, Range};
 use crate::interface::Port;
 use crate::lists::ListPort;
 use crate::texts::TextPort;
+use refusals::Fault;
 use std::process::Abort;
 use std::test::Fail;
 
