@@ -16,16 +16,16 @@ abbrev pub open32 : List ℤ → List ℤ → ℕ → Meaning
 open32 waiting written room =
     record { waiting = waiting; written = written; room = room; low = negsuc 2147483647; high = pos 2147483647 }
 
-abbrev pub first_of : List ℤ → Result ℤ PortFault
-first_of [] = Err NoneWaits
-first_of (n ∷ ns) = Ok n
+abbrev pub first_waiting : List ℤ → Result ℤ PortFault
+first_waiting [] = Err NoneWaits
+first_waiting (n ∷ ns) = Ok n
 
 abbrev pub rest_of : List ℤ → List ℤ
 rest_of [] = []
 rest_of (n ∷ ns) = ns
 
 abbrev pub read_gives : Meaning → Result ℤ PortFault
-read_gives m = first_of m.waiting
+read_gives m = first_waiting m.waiting
 
 abbrev pub read_leaves : Meaning → Meaning
 read_leaves m =

@@ -1,6 +1,7 @@
 //! A port over any port, with a range of its own.
 ghost use Rattle.std.specs.Prelude.{◌≡◌, ◌∷◌};
 ghost use Rattle.ports.specs.Fences.{range_over, fenced, Guards};
+ghost use Rattle.ports.specs.Meanings.{within};
 
 use crate::faults::{PortFault, RangeFault};
 use crate::interface::Port;
@@ -21,6 +22,12 @@ impl Range {
             return Err(RangeFault::Reversed);
         }
         Ok(Range { low, high })
+    }
+
+    fn contains(self, n: i32) -> bool
+        ensures { result ≡ within self.low self.high n }
+    {
+        (self.low..=self.high).contains(&n)
     }
 }
 
@@ -54,7 +61,7 @@ impl<'p, P: Port> Port for Fence<'p, P> {
     }
 
     fn write(&mut self, n: i32) -> Result<(), PortFault> {
-        if n < self.range.low || n > self.range.high {
+        if !self.range.contains(n) {
             return Err(PortFault::OutOfRange(n));
         }
         self.under.write(n)

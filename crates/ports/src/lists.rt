@@ -3,13 +3,11 @@ pub mod calls;
 
 ghost use Rattle.std.specs.Prelude.{◌≤◌, length};
 
-/// Reads the numbers of one slice, and writes into another.
+/// Reads the numbers of one slice, and writes into another. The input is what still waits.
 #[derive(Drop)]
 pub struct ListPort<'i, 'o> {
     input: &'i [i32],
-    place: usize,
     output: &'o mut [i32],
     used: usize,
-    ghost read: { place ≤ length input.now },
     ghost wrote: { used ≤ length output.now },
 }

@@ -15,7 +15,6 @@ impl<'i, 'o> ListPort<'i, 'o> {
     {
         ListPort {
             input,
-            place: 0,
             output,
             used: 0,
         }
@@ -35,12 +34,9 @@ impl<'i, 'o> Port for ListPort<'i, 'o> {
     ghost lent = { λ s. s.output.ghost_name ∷ [] };
 
     fn read(&mut self) -> Result<i32, PortFault> {
-        if self.place == self.input.len() {
-            return Err(PortFault::NoneWaits);
-        }
-        let n = self.input[self.place];
-        self.place += 1;
-        Ok(n)
+        let (n, rest) = self.input.split_first().ok_or(PortFault::NoneWaits)?;
+        self.input = rest;
+        Ok(*n)
     }
 
     fn write(&mut self, n: i32) -> Result<(), PortFault> {

@@ -7,6 +7,9 @@ pub invariant_of-result : goal.invariant_of-result
 unfolding numbers_in
 invariant_of-result c = record { read = search rules; roomy = omega arith; wrote = refl }
 
-pub returns : goal.returns
+pub returns-clause-meaning : goal.returns-clause-meaning
 unfolding numbers_in
-returns c = record { meaning = refl; input = refl; holds = refl; again = read_back }
+returns-clause-meaning c = refl
+
+pub returns-clause-again : goal.returns-clause-again
+returns-clause-again c = read_back

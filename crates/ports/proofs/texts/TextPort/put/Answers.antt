@@ -1,10 +1,8 @@
-use Rattle.std.proofs.Common.{◌<◌, take, drop, sym, refl, arith, w32}
+use Rattle.std.proofs.Common.{◌<◌, drop, arith, w32}
 use Rattle.std.proofs.lemmas.Int.{to_z-of_z}
-use Rattle.ports.specs.Meanings.{open32}
 use Rattle.ports.specs.Words.{numbers_in}
 use Rattle.ports.proofs.Puts.{appended, length_after, wrote_after, leaves_after}
 use Rattle.ports.proofs.Ranges.{all_within}
-use Rattle.ports.proofs.Writes.{room_gives}
 use Rattle.ports.proofs.texts.TextPort.put.Goals as goal
 
 pub invariant_of-self : goal.invariant_of-self
@@ -19,19 +17,11 @@ invariant_of-self c =
     let wrote = wrote_after s.output.bytes.now t.bytes.now s.output.used t.used n told s.wrote (all_within n c.ranges.n) in
     record { read = s.read; roomy = omega (arith, c.put.ensures.short); wrote = wrote }
 
-pub returns : goal.returns
-returns c =
+pub returns-clause-leaves : goal.returns-clause-leaves
+returns-clause-leaves c =
     let s = c.args.self.now in
     let t = c.put.new.self in
     let n = c.args.n in
     let some : 0 < s.room = omega arith in
     let told = appended s.output.bytes.now t.bytes.now s.output.used t.used s.room n _ (to_z-of_z w32 n c.ranges.n) s.roomy some c.put.ensures.count c.put.ensures.short c.put.ensures.bytes in
-    let all = all_within n c.ranges.n in
-    let waiting = numbers_in (drop s.place s.input.now) in
-    record {
-      gives = sym (room_gives (open32 waiting (numbers_in (take s.output.used s.output.bytes.now)) s.room) n all some);
-      leaves = leaves_after waiting s.output.bytes.now t.bytes.now s.output.used t.used s.room n told s.wrote all some;
-      holds = c.put.ensures.lender;
-      input = refl;
-      spelt = (told.count, told.bytes);
-    }
+    leaves_after (numbers_in (drop s.place s.input.now)) s.output.bytes.now t.bytes.now s.output.used t.used s.room n told s.wrote (all_within n c.ranges.n) some
