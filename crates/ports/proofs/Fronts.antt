@@ -1,9 +1,9 @@
 -- A list whose front is written: `p ++ drop k l`, where k is p's length and l the list before.
-use Rattle.std.proofs.Common.{◌≡◌, ℕ, ◌+◌, ◌-◌, ◌/◌, ◌%◌, ◌^◌, ◌<◌, ◌≤◌, List, [], ◌∷◌, ◌++◌, length, get_or, take, drop, set, ℤ, nat_abs, decimal, sym, ap, ◌∙◌, arith}
+use Rattle.std.proofs.Common.{◌≡◌, ℕ, ◌+◌, ◌-◌, ◌<◌, List, [], ◌∷◌, ◌++◌, length, get_or, take, drop, set, ℤ, pos, negsuc, refl, sym, ap, ◌∙◌, arith}
+use Rattle.std.specs.Fmt.{signed_decimal}
 use borrow.Rule.Slice.PartMut.{put_mid}
-use Rattle.std.proofs.lemmas.Fmt.{decimal_step}
-use Rattle.std.proofs.lemmas.List.{set_at, drop_more, drop_at, drop_all, drop-drop, length-drop, append_assoc, append-nil, take_rest, take_at, length-append, length_push}
-use Rattle.ports.specs.Spellings.{sign_of, spelled}
+use Rattle.std.proofs.lemmas.List.{set_at, drop_more, drop_at, drop_all, drop-drop, length-drop, append_assoc, append-nil, take_rest, take_at, length_push}
+use Rattle.ports.specs.Spellings.{spelled}
 
 -- one more after the front p
 pub one_more_lem : (p l : List ℕ) (k a : ℕ) → length p ≡ k → k < length l → set (p ++ drop k l) k a ≡ (p ++ (a ∷ [])) ++ drop (k + 1) l
@@ -22,17 +22,17 @@ rest_more l p q xs ys k m e x y =
     ap (λ z. take k xs ++ (ys ++ z)) whole ∙ ap (λ z. take k xs ++ z) (append-nil ys)
     ∙ ap (λ z. z ++ ys) front ∙ ap (λ z. p ++ z) tail ∙ sym (append_assoc p q (drop (k + m) l))
 
-pub length_spelled : (n : ℤ) → length (spelled n) ≡ length (sign_of n) + length (decimal (nat_abs n)) + 1
+spelled_is : (n : ℤ) → spelled n ≡ signed_decimal n ++ (10 ∷ [])
 unfolding spelled
-length_spelled n = simp length-append
+spelled_is (pos n) = refl
+spelled_is (negsuc n) = refl
 
--- the sign, then the digits in `&mut rest[k..]`, then the line feed
-pub spelled_front : (n : ℤ) (l s ys : List ℕ) (k m : ℕ) → k ≡ length (sign_of n) → s ≡ sign_of n ++ drop k l → m ≡ length (decimal (nat_abs n)) → ys ≡ decimal (nat_abs n) ++ drop m (take (length s - k) (drop k s)) → k + m < length l → set (put_mid k (length s - k) s ys) (k + m) 10 ≡ spelled n ++ drop (k + m + 1) l
-unfolding spelled
-spelled_front n l s ys k m ek es em ey h =
-    let e : length (sign_of n ++ decimal (nat_abs n)) ≡ k + m = simp length-append (omega arith) in
-    ap (λ w. set w (k + m) 10) (rest_more l (sign_of n) (decimal (nat_abs n)) s ys k m (sym ek) es ey)
-    ∙ one_more_lem (sign_of n ++ decimal (nat_abs n)) l (k + m) 10 e h
+-- the text of a number, and then a line feed
+pub length_spelled : (n : ℤ) (text : List ℕ) → text ≡ signed_decimal n → length text + 1 ≡ length (spelled n)
+length_spelled n text e = ap (λ w. length w + 1) e ∙ sym (ap length (spelled_is n) ∙ length_push (signed_decimal n) 10)
 
-pub longer : (n : ℕ) → 10 ≤ n → n < 2 ^ 64 → length (decimal n) ≡ length (decimal (n / 10)) + 1
-longer n h s = ap length (decimal_step n h s) ∙ length_push (decimal (n / 10)) (48 + n % 10)
+pub spelled_front : (n : ℤ) (text front l : List ℕ) → text ≡ signed_decimal n → front ≡ text → length text < length l → set (front ++ drop (length text) l) (length text) 10 ≡ spelled n ++ drop (length text + 1) l
+spelled_front n text front l e f h =
+    one_more_lem front l (length text) 10 (ap length f) h
+    ∙ ap (λ w. (w ++ (10 ∷ [])) ++ drop (length text + 1) l) (f ∙ e)
+    ∙ ap (λ w. w ++ drop (length text + 1) l) (sym (spelled_is n))

@@ -1,41 +1,11 @@
 //! Decimal spellings, written into the unused rest of an output.
-ghost use Rattle.std.specs.Prelude.{◌≡◌, ◌+◌, ◌<◌, ◌≤◌, ◌++◌, length, take, drop, decimal};
-ghost use Rattle.ports.specs.Spellings.{sign_of, spelled};
+ghost use Rattle.std.specs.Prelude.{◌≡◌, ◌+◌, ◌≤◌, ◌++◌, length, take, drop};
+ghost use Rattle.ports.specs.Spellings.{spelled};
+
+use itoa::Buffer;
 
 /// As many bytes suffice for every number of 32 bits: a sign, ten digits and a line feed.
 pub const WIDEST: usize = 12;
-
-const RADIX: u32 = 10;
-
-/// Writes the digits of `n` at the front of the rest, and says how many they are.
-fn write_digits(rest: &mut [u8], n: u32) -> usize
-    requires { length (decimal n) ≤ length rest.old }
-    ensures count { result ≡ length (decimal n) }
-    ensures short { result ≤ 10 }
-    ensures bytes { rest.new ≡ decimal n ++ drop result rest.old }
-{
-    if n < RADIX {
-        rest[0] = b'0' + n as u8;
-        return 1;
-    }
-    let k = write_digits(rest, n / RADIX);
-    rest[k] = b'0' + (n % RADIX) as u8;
-    k + 1
-}
-
-/// Writes the sign of `n`, if it has one, at the front of the rest, and says how many bytes that is.
-fn write_sign(rest: &mut [u8], n: i32) -> usize
-    requires { 0 < length rest.old }
-    ensures count { result ≡ length (sign_of n) }
-    ensures short { result ≤ 1 }
-    ensures bytes { rest.new ≡ sign_of n ++ drop result rest.old }
-{
-    if n < 0 {
-        rest[0] = b'-';
-        return 1;
-    }
-    0
-}
 
 /// Writes `n` and a line feed at the front of the rest, and says how many bytes they take.
 fn write_decimal(rest: &mut [u8], n: i32) -> usize
@@ -44,9 +14,10 @@ fn write_decimal(rest: &mut [u8], n: i32) -> usize
     ensures short { result ≤ 12 }
     ensures bytes { rest.new ≡ spelled n ++ drop result rest.old }
 {
-    let sign = write_sign(rest, n);
-    let digits = write_digits(&mut rest[sign..], n.unsigned_abs());
-    let end = sign + digits;
+    let mut buffer = Buffer::new();
+    let text = buffer.format(n).as_bytes();
+    let end = text.len();
+    rest[..end].copy_from_slice(text);
     rest[end] = b'\n';
     end + 1
 }
