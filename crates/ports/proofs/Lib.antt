@@ -1,6 +1,5 @@
 pub mod Fronts
-pub mod Magnitudes
-pub mod Numbers
+pub mod Numerals
 pub mod Pieces
 pub mod Puts
 pub mod Ranges

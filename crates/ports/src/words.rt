@@ -1,18 +1,9 @@
 //! The words of a text, and the numbers that they spell.
 ghost use Rattle.std.specs.Prelude.{◌≡◌, ℕ, ◌≤◌, Bool, length};
-ghost use Rattle.ports.specs.Words.{blank, solid, digit, run_of, magnitude_of, number_of, malformed_in, word_begins, word_ends};
+ghost use Rattle.ports.specs.Words.{blank, solid, run_of, number_of, malformed_in, word_begins, word_ends};
 
 use crate::faults::Malformed;
-
-const MINUS: u8 = b'-';
-
-const RADIX: u64 = 10;
-
-/// The largest number of 32 bits.
-const LARGEST: u32 = 2_147_483_647;
-
-/// How far the least number of 32 bits is below zero.
-const DEEPEST: u32 = 2_147_483_648;
+use std::str;
 
 /// A test of a byte.
 trait Test {
@@ -54,50 +45,14 @@ fn run<P: Test>(rest: &[u8]) -> usize
     n
 }
 
-fn is_digit(b: u8) -> bool
-    ensures { result ≡ digit b }
-{
-    b >= b'0' && b <= b'9'
-}
-
-/// The number that digits spell, one at least, if it is at most `most`.
-fn magnitude(digits: &[u8], most: u32) -> Option<u32>
-    ensures { result ≡ magnitude_of most digits.now }
-{
-    if digits.is_empty() {
-        return None;
-    }
-    let limit = u64::from(most);
-    let mut value: u64 = 0;
-    for b in digits {
-        if !is_digit(*b) {
-            return None;
-        }
-        value = value * RADIX + u64::from(*b - b'0');
-        if value > limit {
-            return None;
-        }
-    }
-    Some(value as u32)
-}
-
-/// The number that a word spells.
+/// The number that a word spells: a `+` is no part of one.
 pub fn number(word: &[u8]) -> Option<i32>
     ensures { result ≡ number_of word.now }
 {
-    if word.is_empty() {
+    if word.starts_with(b"+") {
         return None;
     }
-    if word[0] == MINUS {
-        return match magnitude(&word[1..], DEEPEST) {
-            Some(n) => Some(-i64::from(n) as i32),
-            None => None,
-        };
-    }
-    match magnitude(word, LARGEST) {
-        Some(n) => Some(n as i32),
-        None => None,
-    }
+    str::from_utf8(word).ok()?.parse().ok()
 }
 
 /// Where the first word from `start` on begins and ends: both at the end of the text where there is none.
