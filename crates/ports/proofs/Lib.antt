@@ -4,5 +4,4 @@ pub mod Pieces
 pub mod Puts
 pub mod Ranges
 pub mod Readback
-pub mod Runs
 pub mod Writes

@@ -1,135 +1,167 @@
--- A text taken word by word: what its pieces say, past the blanks and then past a word.
-use Rattle.std.proofs.Common.{◌≡◌, ℕ, suc, ◌+◌, ◌-◌, ◌<◌, Bool, true, false, cond, not, List, [], ◌∷◌, length, take, drop, None, sym, refl, ap, ◌∙◌, subst, add-zero, arith}
-use Rattle.std.proofs.lemmas.List.{drop-drop, length-take-le}
-use Rattle.ports.specs.Words.{blank, solid, run_of, word_begins, word_ends, first_piece, later_pieces, pieces, number_of, leading, numbers_of, numbers_in, or_later, malformed_from, malformed_in}
-use Rattle.ports.proofs.Runs.{run_within}
+-- The words of a text, one after another.
+use Rattle.std.proofs.Common.{◌≡◌, ℕ, suc, ◌+◌, ◌<◌, ◌≤◌, Bool, true, false, cond, not, ltb, List, [], ◌∷◌, length, get_or, drop, ℤ, Some, None, Option, sym, refl, ap, ◌∙◌, subst, inl, inr, add-zero, arith}
+use Rattle.std.specs.List.{position, position_or_len, before_first}
+use Rattle.std.proofs.lemmas.Bool.{ltb-true, ltb-false}
+use Rattle.std.proofs.lemmas.Bool.{cases_lt}
+use Rattle.std.proofs.lemmas.List.{drop_all, drop_more, drop-drop, length-drop, take_all}
+use Rattle.std.proofs.lemmas.List.Folds.{length-prefix_len}
+use Rattle.std.proofs.lemmas.List.Splits.{slice_split-cons_yes, slice_split_none, slice_split_first}
+use Rattle.std.proofs.lemmas.List.Sums.{prefix_len-le-length, prefix_len_stops, fails_before_first}
+use Rattle.ports.specs.Words.{blank, solid, pieces, words_of, words_from, number_of, leading, numbers_of, numbers_in}
 
--- a text that is at its end or begins with a word
-abbrev Fresh : List ℕ → Type 0
-Fresh [] = Unit {0}
-Fresh (b ∷ bs) = blank b ≡ false
-
-fresh_after : (bs : List ℕ) → Fresh (drop (run_of blank bs) bs)
-fresh_after [] = tt
-fresh_after (b ∷ bs) = go (blank b) refl (fresh_after bs)
+-- past the blanks
+words_blanks : (i : ℕ) (bs : List ℕ) → words_of i (pieces bs) ≡ words_of (i + position_or_len solid bs) (pieces (drop (position_or_len solid bs) bs))
+words_blanks i [] = refl
+words_blanks i (b ∷ bs) = go (blank b) refl (words_blanks (i + 1) bs)
   where
-    go : (t : Bool) → blank b ≡ t → Fresh (drop (run_of blank bs) bs) → Fresh (drop (cond t (suc (run_of blank bs)) 0) (b ∷ bs))
-    go true e h = h
-    go false e h = e
+    k : ℕ
+    k = position_or_len solid bs
 
--- the first piece is the longest front without blanks
-first_piece_lem : (bs : List ℕ) → first_piece bs ≡ take (run_of solid bs) bs
-first_piece_lem [] = refl
-first_piece_lem (b ∷ bs) = go (blank b) (first_piece_lem bs)
-  where
-    go : (t : Bool) → first_piece bs ≡ take (run_of solid bs) bs → cond t [] (b ∷ first_piece bs) ≡ take (cond (not t) (suc (run_of solid bs)) 0) (b ∷ bs)
-    go true e = refl
-    go false e = ap (λ w. b ∷ w) e
-
--- the numbers past blanks, and past a word
-numbers_blanks : (bs : List ℕ) → numbers_in bs ≡ numbers_in (drop (run_of blank bs) bs)
-unfolding numbers_in
-numbers_blanks [] = refl
-numbers_blanks (b ∷ bs) = go (blank b) refl (numbers_blanks bs)
-  where
-    go : (t : Bool) → blank b ≡ t → numbers_of (pieces bs) ≡ numbers_of (pieces (drop (run_of blank bs) bs)) → numbers_of (pieces (b ∷ bs)) ≡ numbers_of (pieces (drop (cond t (suc (run_of blank bs)) 0) (b ∷ bs)))
-    go true t e = ap (λ v. numbers_of (cond v [] (b ∷ first_piece bs) ∷ cond v (pieces bs) (later_pieces bs))) t ∙ e
-    go false t e = refl
-
-numbers_later : (bs : List ℕ) → numbers_of (later_pieces bs) ≡ numbers_in (drop (run_of solid bs) bs)
-unfolding numbers_in
-numbers_later [] = refl
-numbers_later (b ∷ bs) = go (blank b) refl (numbers_later bs)
-  where
-    go : (t : Bool) → blank b ≡ t → numbers_of (later_pieces bs) ≡ numbers_of (pieces (drop (run_of solid bs) bs)) → numbers_of (cond t (pieces bs) (later_pieces bs)) ≡ numbers_of (pieces (drop (cond (not t) (suc (run_of solid bs)) 0) (b ∷ bs)))
-    go true t e = sym (ap (λ v. numbers_of (cond v [] (b ∷ first_piece bs) ∷ cond v (pieces bs) (later_pieces bs))) t)
-    go false t e = e
-
-numbers_word : (bs : List ℕ) → Fresh bs → numbers_in bs ≡ leading (number_of (take (run_of solid bs) bs)) (numbers_in (drop (run_of solid bs) bs))
-unfolding numbers_in number_of
-numbers_word [] h = refl
-numbers_word (b ∷ bs) h =
-    ap (λ v. numbers_of (cond v [] (b ∷ first_piece bs) ∷ later_pieces (b ∷ bs))) h
-    ∙ ap (λ w. leading (number_of (b ∷ w)) (numbers_of (later_pieces (b ∷ bs)))) (first_piece_lem bs)
-    ∙ ap (leading (number_of (b ∷ take (run_of solid bs) bs))) (numbers_later (b ∷ bs))
-    ∙ ap (λ v. leading (number_of (take (cond (not v) (suc (run_of solid bs)) 0) (b ∷ bs))) (numbers_of (pieces (drop (run_of solid (b ∷ bs)) (b ∷ bs))))) (sym h)
-
--- the numbers from a place on: that of the next word, and those after it
-pub numbers_next : (text : List ℕ) (i p e : ℕ) → p ≡ word_begins text i → e ≡ word_ends text p → numbers_in (drop i text) ≡ leading (number_of (take (e - p) (drop p text))) (numbers_in (drop e text))
-numbers_next text i p e h k =
-    let here : drop (run_of blank (drop i text)) (drop i text) ≡ drop p text = drop-drop (run_of blank (drop i text)) i text ∙ ap (λ x. drop x text) (sym h) in
-    let wide : run_of solid (drop p text) ≡ e - p = omega arith in
-    let after : drop (run_of solid (drop p text)) (drop p text) ≡ drop e text = drop-drop (run_of solid (drop p text)) p text ∙ ap (λ x. drop x text) (sym k) in
-    numbers_blanks (drop i text) ∙ ap numbers_in here
-    ∙ numbers_word (drop p text) (subst Fresh here (fresh_after (drop i text)))
-    ∙ ap (λ x. leading (number_of (take x (drop p text))) (numbers_in (drop (run_of solid (drop p text)) (drop p text)))) wide
-    ∙ ap (λ x. leading (number_of (take (e - p) (drop p text))) (numbers_in x)) after
-
--- The same of the first word that spells no number.
-malformed_blanks : (i : ℕ) (bs : List ℕ) → malformed_in i bs ≡ malformed_in (i + run_of blank bs) (drop (run_of blank bs) bs)
-unfolding malformed_in
-malformed_blanks i [] = refl
-malformed_blanks i (b ∷ bs) = go (blank b) refl (malformed_blanks (i + 1) bs)
-  where
-    go : (t : Bool) → blank b ≡ t → malformed_from (i + 1) (pieces bs) ≡ malformed_from (i + 1 + run_of blank bs) (pieces (drop (run_of blank bs) bs)) → malformed_from i (pieces (b ∷ bs)) ≡ malformed_from (i + cond t (suc (run_of blank bs)) 0) (pieces (drop (cond t (suc (run_of blank bs)) 0) (b ∷ bs)))
+    go : (t : Bool) → blank b ≡ t → words_of (i + 1) (pieces bs) ≡ words_of (i + 1 + position_or_len solid bs) (pieces (drop (position_or_len solid bs) bs)) → words_of i (pieces (b ∷ bs)) ≡ words_of (i + cond (not (not t)) (1 + position_or_len solid bs) 0) (pieces (drop (cond (not (not t)) (1 + position_or_len solid bs) 0) (b ∷ bs)))
     go true t e =
-        let far : i + 1 + run_of blank bs ≡ i + suc (run_of blank bs) = omega arith in
-        ap (λ v. malformed_from i (cond v [] (b ∷ first_piece bs) ∷ cond v (pieces bs) (later_pieces bs))) t ∙ e
-        ∙ ap (λ x. malformed_from x (pieces (drop (run_of blank bs) bs))) far
-    go false t e = ap (λ x. malformed_from x (pieces (b ∷ bs))) (sym (add-zero i))
+        let far : i + 1 + position_or_len solid bs ≡ i + suc (position_or_len solid bs) = omega arith in
+        let next : suc (position_or_len solid bs) ≡ 1 + position_or_len solid bs = omega arith in
+        ap (words_of i) (slice_split-cons_yes blank b bs t) ∙ e
+        ∙ ap (λ x. words_of x (pieces (drop (position_or_len solid bs) bs))) far
+        ∙ ap (λ x. words_of (i + x) (pieces (drop x (b ∷ bs)))) next
+    go false t e = ap (λ x. words_of x (pieces (b ∷ bs))) (sym (add-zero i))
 
-malformed_later : (i : ℕ) (bs : List ℕ) → malformed_from (i + run_of solid bs + 1) (later_pieces bs) ≡ malformed_in (i + run_of solid bs) (drop (run_of solid bs) bs)
-unfolding malformed_in
-malformed_later i [] = refl
-malformed_later i (b ∷ bs) = go (blank b) refl (malformed_later (i + 1) bs)
+-- the first piece, and the words after it
+record Piece (bs : List ℕ) : Type 0 where
+  later : List (List ℕ)
+  split : pieces bs ≡ before_first blank bs ∷ later
+  words : (j : ℕ) → words_of (j + 1) later ≡ words_of j (pieces (drop (position_or_len blank bs) bs))
+
+stop_blank : (b : Bool) → not b ≡ false → b ≡ true
+stop_blank true e = refl
+stop_blank false e = absurd (cc)
+
+piece_of : (bs : List ℕ) → Piece bs
+piece_of bs = elim (cases_lt (position_or_len blank bs) (length bs)) [
+  | inl h ↦ record {
+    later = pieces (drop (position_or_len blank bs + 1) bs);
+    split = slice_split_first blank bs 0 h;
+    words = λ j.
+        let stop = stop_blank (blank (get_or bs (position_or_len blank bs) 0)) (prefix_len_stops (λ x. not (blank x)) bs 0 h) in
+        sym (ap (λ l. words_of j (pieces l)) (drop_more bs (position_or_len blank bs) 0 h)
+        ∙ ap (words_of j) (slice_split-cons_yes blank (get_or bs (position_or_len blank bs) 0) (drop (position_or_len blank bs + 1) bs) stop));
+  }
+  | inr h ↦ record {
+    later = [];
+    split = slice_split_none blank bs (λ j d q. fails_before_first blank bs j d (omega arith)) ∙ ap (λ w. w ∷ []) (sym (take_all (position_or_len blank bs) bs h));
+    words = λ j. sym (ap (λ l. words_of j (pieces l)) (drop_all (position_or_len blank bs) bs h));
+  }
+]
+
+-- a word that is not empty
+words_cons : (j : ℕ) (w : List ℕ) (ps : List (List ℕ)) → 0 < length w → words_of j (w ∷ ps) ≡ (j, w) ∷ words_of (j + length w + 1) ps
+words_cons j [] ps h = absurd (omega arith)
+words_cons j (b ∷ w) ps h = refl
+
+words_word : (j : ℕ) (bs : List ℕ) → 0 < position_or_len blank bs → words_of j (pieces bs) ≡ (j, before_first blank bs) ∷ words_of (j + length (before_first blank bs)) (pieces (drop (position_or_len blank bs) bs))
+words_word j bs h =
+    let p = piece_of bs in
+    let long = length-prefix_len (λ x. not (blank x)) bs in
+    ap (words_of j) p.split
+    ∙ words_cons j (before_first blank bs) p.later (omega arith)
+    ∙ ap (λ ws. (j, before_first blank bs) ∷ ws) (p.words (j + length (before_first blank bs)))
+
+found : (p : ℕ → Bool) (xs : List ℕ) (k : ℕ) → Some k ≡ position p xs → (k ≡ position_or_len p xs) × (k < length xs)
+found p xs k e = go (ltb (position_or_len p xs) (length xs)) refl e
   where
-    go : (t : Bool) → blank b ≡ t → malformed_from (i + 1 + run_of solid bs + 1) (later_pieces bs) ≡ malformed_from (i + 1 + run_of solid bs) (pieces (drop (run_of solid bs) bs)) → malformed_from (i + cond (not t) (suc (run_of solid bs)) 0 + 1) (cond t (pieces bs) (later_pieces bs)) ≡ malformed_from (i + cond (not t) (suc (run_of solid bs)) 0) (pieces (drop (cond (not t) (suc (run_of solid bs)) 0) (b ∷ bs)))
-    go true t e = sym (ap (λ v. malformed_from (i + 0) (cond v [] (b ∷ first_piece bs) ∷ cond v (pieces bs) (later_pieces bs))) t)
-    go false t e =
-        let far : i + 1 + run_of solid bs ≡ i + suc (run_of solid bs) = omega arith in
-        ap (λ x. malformed_from (x + 1) (later_pieces bs)) (sym far) ∙ e ∙ ap (λ x. malformed_from x (pieces (drop (run_of solid bs) bs))) far
+    go : (t : Bool) → ltb (position_or_len p xs) (length xs) ≡ t → Some k ≡ cond t (Some (position_or_len p xs)) None → (k ≡ position_or_len p xs) × (k < length xs)
+    go true t e = let same : k ≡ position_or_len p xs = cc in (same, omega (arith, ltb-true (position_or_len p xs) (length xs) t))
+    go false t e = absurd (cc)
 
-malformed_word : (i : ℕ) (bs : List ℕ) → Fresh bs → 0 < run_of solid bs → malformed_in i bs ≡ or_later i (number_of (take (run_of solid bs) bs)) (malformed_in (i + run_of solid bs) (drop (run_of solid bs) bs))
-unfolding malformed_in
-malformed_word i [] h some = absurd (omega arith)
-malformed_word i (b ∷ bs) h some =
-    let wide : run_of solid (b ∷ bs) ≡ suc (run_of solid bs) = ap (λ v. cond (not v) (suc (run_of solid bs)) 0) h in
-    let long : i + suc (length (take (run_of solid bs) bs)) + 1 ≡ i + run_of solid (b ∷ bs) + 1 = let n = length-take-le (run_of solid bs) bs (run_within solid bs) in omega arith in
-    ap (λ v. malformed_from i (cond v [] (b ∷ first_piece bs) ∷ later_pieces (b ∷ bs))) h
-    ∙ ap (λ w. or_later i (number_of (b ∷ w)) (malformed_from (i + suc (length w) + 1) (later_pieces (b ∷ bs)))) (first_piece_lem bs)
-    ∙ ap (λ x. or_later i (number_of (b ∷ take (run_of solid bs) bs)) (malformed_from x (later_pieces (b ∷ bs)))) long
-    ∙ ap (or_later i (number_of (b ∷ take (run_of solid bs) bs))) (malformed_later i (b ∷ bs))
-    ∙ ap (λ x. or_later i (number_of (take x (b ∷ bs))) (malformed_from (i + run_of solid (b ∷ bs)) (pieces (drop (run_of solid (b ∷ bs)) (b ∷ bs))))) (sym wide)
+missing : (p : ℕ → Bool) (xs : List ℕ) → None ≡ position p xs → length xs ≤ position_or_len p xs
+missing p xs e = go (ltb (position_or_len p xs) (length xs)) refl e
+  where
+    go : (t : Bool) → ltb (position_or_len p xs) (length xs) ≡ t → None ≡ cond t (Some (position_or_len p xs)) None → length xs ≤ position_or_len p xs
+    go true t e = absurd (cc)
+    go false t e = omega (arith, ltb-false (position_or_len p xs) (length xs) t)
 
--- at the place after the blanks
-malformed_here : (text : List ℕ) (i p : ℕ) → p ≡ word_begins text i → malformed_in i (drop i text) ≡ malformed_in p (drop p text)
-malformed_here text i p h =
-    malformed_blanks i (drop i text)
-    ∙ ap (malformed_in (word_begins text i)) (drop-drop (run_of blank (drop i text)) i text)
-    ∙ ap (λ x. malformed_in x (drop x text)) (sym h)
+-- the word at place p is the next one from place i on
+pub record Taken (text : List ℕ) (i p : ℕ) (bytes : List ℕ) : Type 0 where
+  pub within : p + length bytes ≤ length text
+  pub words : words_from i text ≡ (p, bytes) ∷ words_from (p + length bytes) text
 
-fresh_here : (text : List ℕ) (i p : ℕ) → p ≡ word_begins text i → Fresh (drop p text)
-fresh_here text i p h = subst Fresh (drop-drop (run_of blank (drop i text)) i text ∙ ap (λ x. drop x text) (sym h)) (fresh_after (drop i text))
+solid_first : (b : Bool) → not (not b) ≡ false → b ≡ false
+solid_first true e = absurd (cc)
+solid_first false e = refl
 
-pub malformed_next : (text : List ℕ) (i p e : ℕ) → p ≡ word_begins text i → e ≡ word_ends text p → p < e → malformed_in i (drop i text) ≡ or_later p (number_of (take (e - p) (drop p text))) (malformed_in e (drop e text))
-malformed_next text i p e h k some =
-    let wide : run_of solid (drop p text) ≡ e - p = omega arith in
-    let any : 0 < run_of solid (drop p text) = omega arith in
-    let after : drop (run_of solid (drop p text)) (drop p text) ≡ drop e text = drop-drop (run_of solid (drop p text)) p text ∙ ap (λ x. drop x text) (sym k) in
-    malformed_here text i p h
-    ∙ malformed_word p (drop p text) (fresh_here text i p h) any
-    ∙ ap (λ x. or_later p (number_of (take x (drop p text))) (malformed_in (p + run_of solid (drop p text)) (drop (run_of solid (drop p text)) (drop p text)))) wide
-    ∙ ap (λ x. or_later p (number_of (take (e - p) (drop p text))) (malformed_in (p + run_of solid (drop p text)) x)) after
-    ∙ ap (λ x. or_later p (number_of (take (e - p) (drop p text))) (malformed_in x (drop e text))) (sym k)
+some_piece : (x : ℕ) (xs bs : List ℕ) → bs ≡ x ∷ xs → blank x ≡ false → 0 < position_or_len blank bs
+some_piece x xs bs e h =
+    let one : position_or_len blank bs ≡ 1 + position_or_len blank xs = ap (position_or_len blank) e ∙ ap (λ (t : Bool). cond (not t) (1 + position_or_len blank xs) 0) h in
+    omega arith
 
--- a text that begins with a word has bytes of it, so where there are none the text is at its end
-fresh_end : (i : ℕ) (bs : List ℕ) → Fresh bs → run_of solid bs ≡ 0 → malformed_in i bs ≡ None
-unfolding malformed_in
-fresh_end i [] h z = refl
-fresh_end i (b ∷ bs) h z =
-    let wide : run_of solid (b ∷ bs) ≡ suc (run_of solid bs) = ap (λ v. cond (not v) (suc (run_of solid bs)) 0) h in
-    absurd (omega arith)
+pub word_taken : (text rest tail bytes : List ℕ) (i k : ℕ) → i ≤ length text → rest ≡ drop i text → Some k ≡ position solid rest → tail ≡ drop k rest → bytes ≡ before_first blank tail → Taken text i (i + k) bytes
+unfolding words_from
+word_taken text rest tail bytes i k h r s t b =
+    let f = found solid rest k s in
+    let long = ap length r ∙ length-drop i text in
+    let here : k < length rest = f.1 in
+    let at : tail ≡ get_or rest k 0 ∷ drop (k + 1) rest = t ∙ drop_more rest k 0 here in
+    let stops = prefix_len_stops (λ x. not (solid x)) rest 0 (omega (arith, f.0)) in
+    let stop : blank (get_or rest k 0) ≡ false = solid_first (blank (get_or rest k 0)) (ap (λ x. not (solid (get_or rest x 0))) f.0 ∙ stops) in
+    let some = some_piece (get_or rest k 0) (drop (k + 1) rest) tail at stop in
+    let size : length bytes ≡ position_or_len blank tail = ap length b ∙ length-prefix_len (λ x. not (blank x)) tail in
+    let most = prefix_len-le-length (λ x. not (blank x)) tail in
+    let there : tail ≡ drop (i + k) text = t ∙ ap (drop k) r ∙ drop-drop k i text in
+    let rear : drop (position_or_len blank tail) tail ≡ drop (i + k + length bytes) text =
+    ap (drop (position_or_len blank tail)) there ∙ drop-drop (position_or_len blank tail) (i + k) text ∙ ap (λ x. drop (i + k + x) text) (sym size) in
+    let left = ap length there ∙ length-drop (i + k) text in
+    record {
+      within = omega arith;
+      words = ap (λ l. words_of i (pieces l)) (sym r)
+          ∙ words_blanks i rest
+          ∙ ap (λ x. words_of (i + x) (pieces (drop x rest))) (sym f.0)
+          ∙ ap (λ l. words_of (i + k) (pieces l)) (sym t)
+          ∙ words_word (i + k) tail some
+          ∙ ap (λ l. (i + k, l) ∷ words_of (i + k + length l) (pieces (drop (position_or_len blank tail) tail))) (sym b)
+          ∙ ap (λ l. (i + k, bytes) ∷ words_of (i + k + length bytes) (pieces l)) rear;
+    }
 
-pub malformed_end : (text : List ℕ) (i p e : ℕ) → p ≡ word_begins text i → e ≡ word_ends text p → p ≡ e → malformed_in i (drop i text) ≡ None
-malformed_end text i p e h k same =
-    malformed_here text i p h ∙ fresh_end p (drop p text) (fresh_here text i p h) (omega arith)
+pub none_taken : (text rest : List ℕ) (i : ℕ) → rest ≡ drop i text → None ≡ position solid rest → words_from i text ≡ []
+unfolding words_from
+none_taken text rest i r s =
+    ap (λ l. words_of i (pieces l)) (sym r) ∙ words_blanks i rest
+    ∙ ap (λ l. words_of (i + position_or_len solid rest) (pieces l)) (drop_all (position_or_len solid rest) rest (missing solid rest s))
+
+pub word_after : (text : List ℕ) (i p : ℕ) (w : List ℕ) (ws : List (ℕ × List ℕ)) → i ≤ length text → words_from i text ≡ (p, w) ∷ ws → Taken text i p w
+word_after text i p w ws h e = go (position solid (drop i text)) refl
+  where
+    go : (o : Option ℕ) → position solid (drop i text) ≡ o → Taken text i p w
+    go None s = let none = none_taken text (drop i text) i refl (sym s) in absurd (cc)
+    go (Some k) s =
+        let t = word_taken text (drop i text) (drop k (drop i text)) (before_first blank (drop k (drop i text))) i k h refl (sym s) refl refl in
+        let words = t.words in
+        let pair : ◌≡◌ {A = ℕ × List ℕ} (i + k, before_first blank (drop k (drop i text))) (p, w) = cc in
+        subst (λ (x : ℕ × List ℕ). Taken text i x.0 x.1) pair t
+
+-- the numbers of words
+abbrev spelled_by : List (ℕ × List ℕ) → List ℤ
+spelled_by [] = []
+spelled_by ((p, w) ∷ ws) = leading (number_of w) (spelled_by ws)
+
+numbers_words : (i : ℕ) (ps : List (List ℕ)) → numbers_of ps ≡ spelled_by (words_of i ps)
+numbers_words i [] = refl
+numbers_words i ([] ∷ ps) = numbers_words (i + 1) ps
+numbers_words i ((b ∷ w) ∷ ps) = ap (leading (number_of (b ∷ w))) (numbers_words (i + length (b ∷ w) + 1) ps)
+
+numbers_from : (i : ℕ) (text : List ℕ) → numbers_in (drop i text) ≡ spelled_by (words_from i text)
+unfolding numbers_in words_from
+numbers_from i text = numbers_words i (pieces (drop i text))
+
+numbers_next : (text : List ℕ) (i p : ℕ) (w : List ℕ) → Taken text i p w → numbers_in (drop i text) ≡ leading (number_of w) (numbers_in (drop (p + length w) text))
+numbers_next text i p w t =
+    numbers_from i text ∙ ap spelled_by t.words ∙ ap (leading (number_of w)) (sym (numbers_from (p + length w) text))
+
+-- what waits from place i on: nothing, nothing for a malformed word, or the number of the next word and those after it
+pub none_waits : (text : List ℕ) (i : ℕ) → words_from i text ≡ [] → numbers_in (drop i text) ≡ []
+none_waits text i e = numbers_from i text ∙ ap spelled_by e
+
+pub malformed_waits : (text : List ℕ) (i p : ℕ) (w : List ℕ) → Taken text i p w → number_of w ≡ None → numbers_in (drop i text) ≡ []
+malformed_waits text i p w t e = numbers_next text i p w t ∙ ap (λ o. leading o (numbers_in (drop (p + length w) text))) e
+
+pub number_waits : (text : List ℕ) (i p : ℕ) (w : List ℕ) (n : ℤ) → Taken text i p w → number_of w ≡ Some n → numbers_in (drop i text) ≡ n ∷ numbers_in (drop (p + length w) text)
+number_waits text i p w n t e = numbers_next text i p w t ∙ ap (λ o. leading o (numbers_in (drop (p + length w) text))) e

@@ -1,14 +1,16 @@
 -- What was spelled is read back.
-use Rattle.std.proofs.Common.{◌≡◌, ℕ, suc, ◌≤◌, Bool, true, cond, leb, List, [], ◌∷◌, ◌++◌, false, ℤ, pos, negsuc, neg_ℤ, nat_abs, Some, None, decimal, Option, sym, refl, ap, ◌∙◌, arith}
+use Rattle.std.proofs.Common.{◌≡◌, ℕ, suc, ◌≤◌, true, leb, List, [], ◌∷◌, ◌++◌, false, ℤ, pos, negsuc, neg_ℤ, nat_abs, Some, None, decimal, Option, sym, refl, ap, ◌∙◌, arith}
 use Rattle.std.specs.Int.{IsInRange}
 use Rattle.std.specs.List.{AllByRecursion}
 use Rattle.std.specs.Str.Parse.{AllDigits}
 use Rattle.std.proofs.lemmas.Fmt.{decimal_is_IsNumeral}
 use Rattle.std.proofs.lemmas.List.{append_assoc, append-nil}
+use Rattle.std.proofs.lemmas.List.Elements.{All-from_recursion}
+use Rattle.std.proofs.lemmas.List.Splits.{slice_split_at}
 use Rattle.std.proofs.lemmas.Bool.{leb-true, ne_eqb, and_parts}
 use Rattle.std.proofs.lemmas.Str.Parse.{digit_from_value}
 use Rattle.ports.specs.Spellings.{sign_of, spelled, spellings, fits32, ReadBack}
-use Rattle.ports.specs.Words.{blank, first_piece, later_pieces, pieces, number_of, leading, numbers_of, numbers_in}
+use Rattle.ports.specs.Words.{blank, pieces, number_of, leading, numbers_of, numbers_in}
 use Rattle.ports.proofs.Numerals.{number_digits, number_negative, number_reads}
 use Rattle.ports.proofs.Ranges.{all_within}
 
@@ -25,14 +27,8 @@ digit_solid d p =
 abbrev Whole : List ℕ → Type 0
 Whole w = AllByRecursion (λ b. blank b ≡ false) w
 
-word_piece : (w rest : List ℕ) → Whole w → first_piece (w ++ (10 ∷ rest)) ≡ w
-word_piece [] rest h = refl
-word_piece (b ∷ w) rest (h, hs) = ap (λ (t : Bool). cond t [] (b ∷ first_piece (w ++ (10 ∷ rest)))) h ∙ ap (λ v. b ∷ v) (word_piece w rest hs)
-
-word_later : (w rest : List ℕ) → Whole w → later_pieces (w ++ (10 ∷ rest)) ≡ pieces rest
-word_later [] rest h = refl
-word_later (b ∷ w) rest (h, hs) =
-    ap (λ (t : Bool). cond t (pieces (w ++ (10 ∷ rest))) (later_pieces (w ++ (10 ∷ rest)))) h ∙ word_later w rest hs
+word_split : (w rest : List ℕ) → Whole w → pieces (w ++ (10 ∷ rest)) ≡ w ∷ pieces rest
+word_split w rest h = slice_split_at blank w 10 rest (All-from_recursion (λ b. blank b ≡ false) w h) refl
 
 digits_whole : (ds : List ℕ) → AllDigits 10 ds → Whole ds
 digits_whole [] h = tt
@@ -72,8 +68,7 @@ read_one : (n : ℤ) (rest : List ℕ) → fits32 n ≡ true → numbers_in (spe
 unfolding numbers_in spelled
 read_one n rest h =
     ap (λ bs. numbers_of (pieces bs)) (append_assoc (word_of n) (10 ∷ []) rest)
-    ∙ ap (λ w. numbers_of (w ∷ later_pieces (word_of n ++ (10 ∷ rest)))) (word_piece (word_of n) rest (word_whole n h))
-    ∙ ap (λ ps. numbers_of (word_of n ∷ ps)) (word_later (word_of n) rest (word_whole n h))
+    ∙ ap numbers_of (word_split (word_of n) rest (word_whole n h))
     ∙ numbers_of_word (word_of n) n (pieces rest) (word_number n h)
 
 nothing_waits : numbers_in [] ≡ []

@@ -1,5 +1,7 @@
 -- The words of a text, and the numbers that they spell.
-use Rattle.std.specs.Prelude.{ℕ, suc, ◌+◌, ◌-◌, ◌*◌, Bool, cond, not, ◌&&◌, ◌||◌, List, [], ◌∷◌, length, drop, ℤ, pos, neg_ℤ, Some, None, Option, ◌==◌, nat_le}
+use Rattle.std.specs.Prelude.{ℕ, ◌+◌, ◌-◌, ◌*◌, Bool, cond, not, ◌&&◌, ◌||◌, List, [], ◌∷◌, length, drop, ℤ, pos, neg_ℤ, Some, None, Option, ◌==◌, nat_le}
+use Rattle.std.specs.List.{slice_split, find}
+use Rattle.std.specs.Option.{is_some, option_map}
 use Rattle.ports.specs.declared.faults.Malformed.{Malformed}
 
 -- space, tab, line feed and carriage return
@@ -14,31 +16,19 @@ solid b = not (blank b)
 abbrev pub digit : ℕ → Bool
 digit b = nat_le 48 b && nat_le b 57
 
--- how many bytes at the front pass a test, up to the first that does not
-abbrev pub run_of : (ℕ → Bool) → List ℕ → ℕ
-run_of p [] = 0
-run_of p (b ∷ bs) = cond (p b) (suc (run_of p bs)) 0
-
--- where the first word from place i on begins, and where a word that begins at i ends
-abbrev pub word_begins : List ℕ → ℕ → ℕ
-word_begins text i = i + run_of blank (drop i text)
-
-abbrev pub word_ends : List ℕ → ℕ → ℕ
-word_ends text i = i + run_of solid (drop i text)
-
--- the bytes up to the first blank
-abbrev pub first_piece : List ℕ → List ℕ
-first_piece [] = []
-first_piece (b ∷ bs) = cond (blank b) [] (b ∷ first_piece bs)
-
--- the pieces after each blank, up to the next
-abbrev pub later_pieces : List ℕ → List (List ℕ)
-later_pieces [] = []
-later_pieces (b ∷ bs) = cond (blank b) (first_piece bs ∷ later_pieces bs) (later_pieces bs)
-
 -- a text cut at each of its blanks: the words, and an empty piece wherever two blanks meet
 abbrev pub pieces : List ℕ → List (List ℕ)
-pieces bs = first_piece bs ∷ later_pieces bs
+pieces bs = slice_split blank bs
+
+-- the words among pieces that stand one after another from place i on, a blank between each two; and where each stands
+abbrev pub words_of : ℕ → List (List ℕ) → List (ℕ × List ℕ)
+words_of i [] = []
+words_of i ([] ∷ ps) = words_of (i + 1) ps
+words_of i ((b ∷ w) ∷ ps) = (i, b ∷ w) ∷ words_of (i + length (b ∷ w) + 1) ps
+
+-- the words of a text from place i on
+unfoldable pub words_from : ℕ → List ℕ → List (ℕ × List ℕ)
+words_from i text = words_of i (pieces (drop i text))
 
 -- the number that digits spell after those of n, if it is at most `most`
 abbrev pub magnitude_from : ℕ → ℕ → List ℕ → Option ℕ
@@ -75,16 +65,7 @@ numbers_of ((b ∷ w) ∷ ps) = leading (number_of (b ∷ w)) (numbers_of ps)
 unfoldable pub numbers_in : List ℕ → List ℤ
 numbers_in bs = numbers_of (pieces bs)
 
--- a word at place i that spells no number, or else what comes after
-abbrev pub or_later : ℕ → Option ℤ → Option Malformed → Option Malformed
-or_later i None later = Some (record { place = i })
-or_later i (Some n) later = later
-
--- where the first word stands that spells no number, of pieces from place i on
-abbrev pub malformed_from : ℕ → List (List ℕ) → Option Malformed
-malformed_from i [] = None
-malformed_from i ([] ∷ ps) = malformed_from (i + 1) ps
-malformed_from i ((b ∷ w) ∷ ps) = or_later i (number_of (b ∷ w)) (malformed_from (i + length (b ∷ w) + 1) ps)
-
+-- where the first word stands that spells no number, of a text that begins at place i
 unfoldable pub malformed_in : ℕ → List ℕ → Option Malformed
-malformed_in i bs = malformed_from i (pieces bs)
+malformed_in i bs =
+    option_map (λ w. record { place = w.0 }) (find (λ w. not (is_some (number_of w.1))) (words_of i (pieces bs)))

@@ -1,48 +1,66 @@
 //! The words of a text, and the numbers that they spell.
-ghost use Rattle.std.specs.Prelude.{◌≡◌, ℕ, ◌≤◌, Bool, length};
-ghost use Rattle.ports.specs.Words.{blank, solid, run_of, number_of, malformed_in, word_begins, word_ends};
+ghost use Rattle.std.specs.Prelude.{◌≡◌, ◌≤◌, length, position};
+ghost use Rattle.std.specs.List.{before_first};
+ghost use Rattle.ports.specs.Words.{blank, solid, number_of, malformed_in};
 
 use crate::faults::Malformed;
 use std::str;
 
-/// A test of a byte.
-trait Test {
-    ghost passes: { ℕ → Bool };
-
-    fn test(b: u8) -> bool
-        ensures { result ≡ passes b };
-}
-
-struct Blank;
-
-impl Test for Blank {
-    ghost passes = { blank };
-
-    fn test(b: u8) -> bool {
-        b == b' ' || b == b'\t' || b == b'\n' || b == b'\r'
-    }
-}
-
-struct Solid;
-
-impl Test for Solid {
-    ghost passes = { solid };
-
-    fn test(b: u8) -> bool {
-        !<Blank as Test>::test(b)
-    }
-}
-
-/// How many bytes at the front pass the test, up to the first that does not.
-fn run<P: Test>(rest: &[u8]) -> usize
-    ensures run { result ≡ run_of P.passes rest.now }
-    ensures within { result ≤ length rest.now }
+fn is_blank(b: u8) -> bool
+    ensures { result ≡ blank b }
 {
-    let mut n = 0;
-    while n < rest.len() && P::test(rest[n]) {
-        n += 1;
+    matches!(b, b' ' | b'\t' | b'\n' | b'\r')
+}
+
+/// The offset of the first byte that is no blank.
+fn first_solid(rest: &[u8]) -> Option<usize>
+    ensures { result ≡ position solid rest.now }
+{
+    rest.iter().position(|b| !is_blank(*b))
+}
+
+/// The bytes up to the first blank.
+fn first_piece(rest: &[u8]) -> &[u8]
+    ensures { result.now ≡ before_first blank rest.now }
+{
+    let end = rest.iter().take_while(|b| !is_blank(**b)).count();
+    &rest[..end]
+}
+
+/// A word of a text.
+#[derive(Clone, Copy)]
+pub struct Word<'t> {
+    pub bytes: &'t [u8],
+    /// The offset of its first byte in the text.
+    pub place: usize,
+}
+
+/// The words of a text from a place on.
+#[derive(Drop)]
+pub struct Words<'t> {
+    pub text: &'t [u8],
+    pub place: usize,
+    ghost within: { place ≤ length text.now },
+}
+
+impl<'t> Iterator for Words<'t> {
+    ghost use Rattle.std.specs.Iterator.{YieldsFirstBy, item_count};
+    ghost use Rattle.ports.specs.Words.{words_from};
+
+    type Item = Word<'t>;
+
+    ghost next_gives = { YieldsFirstBy (λ w. (w.place, w.bytes.now)) (λ s. words_from s.place s.text.now) };
+
+    ghost remaining = { item_count (λ s. words_from s.place s.text.now) };
+
+    fn next(&mut self) -> Option<Word<'t>> {
+        let rest = &self.text[self.place..];
+        let blanks = first_solid(rest)?;
+        let bytes = first_piece(&rest[blanks..]);
+        let place = self.place + blanks;
+        self.place = place + bytes.len();
+        Some(Word { bytes, place })
     }
-    n
 }
 
 /// The number that a word spells: a `+` is no part of one.
@@ -55,31 +73,11 @@ pub fn number(word: &[u8]) -> Option<i32>
     str::from_utf8(word).ok()?.parse().ok()
 }
 
-/// Where the first word from `start` on begins and ends: both at the end of the text where there is none.
-pub fn next_word(text: &[u8], start: usize) -> (usize, usize)
-    requires { start ≤ length text.now }
-    ensures begins { result.0 ≡ word_begins text.now start }
-    ensures ends { result.1 ≡ word_ends text.now result.0 }
-    ensures within { (start ≤ result.0) × (result.0 ≤ result.1) × (result.1 ≤ length text.now) }
-{
-    let begins = start + run::<Blank>(&text[start..]);
-    let ends = begins + run::<Solid>(&text[begins..]);
-    (begins, ends)
-}
-
 /// The first word of a text that spells no number.
 pub fn first_malformed(text: &[u8]) -> Option<Malformed>
     ensures { result ≡ malformed_in 0 text.now }
 {
-    let mut place = 0;
-    loop {
-        let (begins, ends) = next_word(text, place);
-        if begins == ends {
-            return None;
-        }
-        if let None = number(&text[begins..ends]) {
-            return Some(Malformed { place: begins });
-        }
-        place = ends;
-    }
+    Words { text, place: 0 }
+        .find(|word| number(word.bytes).is_none())
+        .map(|word| Malformed { place: word.place })
 }

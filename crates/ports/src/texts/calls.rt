@@ -9,7 +9,7 @@ use crate::decimals::{Output, WIDEST};
 use crate::faults::{Malformed, PortFault};
 use crate::interface::Port;
 use crate::texts::TextPort;
-use crate::words::{first_malformed, next_word, number};
+use crate::words::{Words, first_malformed, number};
 
 impl<'i, 'o> TextPort<'i, 'o> {
     /// The numbers of the input wait, nothing is written, and there is room for a number in each twelve bytes.
@@ -68,14 +68,14 @@ impl<'i, 'o> Port for TextPort<'i, 'o> {
     ghost lent = { λ s. s.output.bytes.ghost_name ∷ [] };
 
     fn read(&mut self) -> Result<i32, PortFault> {
-        let (begins, ends) = next_word(self.input, self.place);
-        match number(&self.input[begins..ends]) {
-            Some(n) => {
-                self.place = ends;
-                Ok(n)
-            }
-            None => Err(PortFault::NoneWaits),
-        }
+        let mut words = Words {
+            text: self.input,
+            place: self.place,
+        };
+        let word = words.next().ok_or(PortFault::NoneWaits)?;
+        let n = number(word.bytes).ok_or(PortFault::NoneWaits)?;
+        self.place = word.place + word.bytes.len();
+        Ok(n)
     }
 
     fn write(&mut self, n: i32) -> Result<(), PortFault> {

@@ -1,28 +1,21 @@
-use Rattle.std.proofs.Common.{◌<◌, drop, sym, ap, ◌∙◌, arith}
-use Rattle.ports.specs.Words.{or_later, malformed_in}
-use Rattle.ports.proofs.Pieces.{malformed_next, malformed_end}
+use Rattle.std.proofs.Common.{◌≡◌, ℕ, List, not, Some, None, Option, refl, ap, ◌∙◌, rules, tests}
+use Rattle.std.specs.Option.{is_some, option_map}
+use Rattle.std.proofs.lemmas.Iterator.Consumers.{YieldsList-from_first}
+use Rattle.std.proofs.lemmas.Iterator.Search.{find_from_yields_List}
+use Rattle.ports.specs.declared.faults.Malformed.{Malformed}
+use Rattle.ports.specs.declared.words.Word.{Word}
+use Rattle.ports.specs.Words.{words_from, malformed_in, number_of}
 use Rattle.ports.proofs.words.first_malformed.Goals as goal
 
-pub returns-then-begins-ends : goal.returns-then-begins-ends
-returns-then-begins-ends c =
-    let w = c.next_word-begins in
-    sym (sym c.loop-place.invariant.0
-    ∙ malformed_end c.args.text.now c.loop-place.place w.result.0 w.result.1 w.ensures.begins w.ensures.ends c.if-begins-ends.true)
+-- the place of a word, by what is seen of it
+seen : (r : Option Word) → option_map (λ w. record { place = w.place }) r ≡ option_map {U = Malformed} (λ (w : ℕ × List ℕ). record { place = w.0 }) (option_map (λ w. (w.place, w.bytes.now)) r)
+seen None = refl
+seen (Some w) = refl
 
-pub returns-in-None : goal.returns-in-None
-returns-in-None c =
-    let text = c.args.text.now in
-    let w = c.next_word-begins in
-    let some : w.result.0 < w.result.1 = omega (arith, w.ensures.within.1) in
-    sym (sym c.loop-place.invariant.0
-    ∙ malformed_next text c.loop-place.place w.result.0 w.result.1 w.ensures.begins w.ensures.ends some
-    ∙ ap (λ o. or_later w.result.0 o (malformed_in w.result.1 (drop w.result.1 text))) (sym c.in-None.ensures))
-
-pub loop-place-preserved : goal.loop-place-preserved
-loop-place-preserved c =
-    let text = c.args.text.now in
-    let w = c.next_word-begins in
-    let some : w.result.0 < w.result.1 = omega (arith, w.ensures.within.1) in
-    let next = malformed_next text c.loop-place.place w.result.0 w.result.1 w.ensures.begins w.ensures.ends some
-    ∙ ap (λ o. or_later w.result.0 o (malformed_in w.result.1 (drop w.result.1 text))) (sym c.in_default.ensures) in
-    (sym next ∙ c.loop-place.invariant.0, w.ensures.within.2)
+pub returns : goal.returns
+unfolding words_from malformed_in
+returns c =
+    let told : c.map.result ≡ option_map (λ w. record { place = w.place }) c.find.result = search rules in
+    told ∙ seen c.find.result
+    ∙ ap (option_map (λ w. record { place = w.0 }))
+    (find_from_yields_List (λ w. not (is_some (number_of w.1))) c.find.new.self _ c.find.result c.find.ensures.ran (YieldsList-from_first (λ w. (w.place, w.bytes.now)) (λ s. words_from s.place s.text.now) (words_from 0 c.args.text.now) refl) (λ x b q k. search (rules, tests)))

@@ -1,32 +1,77 @@
-use Rattle.std.proofs.Common.{take, drop, Ok, sym, refl, ap, ◌∙◌, w32, SFits, rules}
+use Rattle.std.proofs.Common.{◌≡◌, Ok, Some, None, ap, w32, SFits, rules}
 use Rattle.std.proofs.lemmas.Int.{to_z-of_z}
-use Rattle.ports.specs.Meanings.{open32, first_waiting, rest_of}
-use Rattle.ports.specs.Words.{numbers_in, leading}
-use Rattle.ports.proofs.Pieces.{numbers_next}
+use Rattle.std.proofs.lemmas.Option.{MatchOption-at_none, MatchOption-at_some}
+use Rattle.ports.specs.Words.{number_of}
+use Rattle.ports.proofs.Pieces.{word_after, none_waits, malformed_waits, number_waits}
 use Rattle.ports.proofs.texts.calls.TextPortPort.read.Goals as goal
 
-pub returns-in-Some : goal.returns-in-Some
-returns-in-Some c =
+pub returns-in_err-word-clause-gives : goal.returns-in_err-word-clause-gives
+returns-in_err-word-clause-gives c =
     let s = c.args.self.now in
-    let w = c.next_word-begins in
-    let f : SFits w32 c.in-Some.n = search rules in
-    let e = numbers_next s.input.now s.place w.result.0 w.result.1 w.ensures.begins w.ensures.ends
-    ∙ ap (λ o. leading o (numbers_in (drop w.result.1 s.input.now))) (sym c.in-Some.ensures) in
-    record {
-      gives = ap Ok (to_z-of_z w32 c.in-Some.n f) ∙ sym (ap first_waiting e);
-      leaves = sym (ap (λ ns. open32 (rest_of ns) (numbers_in (take s.output.used s.output.bytes.now)) s.room) e);
-      holds = refl;
-    }
+    let none : c.next.result ≡ None = search rules in
+    let e = none_waits s.input.now s.place (MatchOption-at_none _ _ none c.next.ensures.steps).0 in
+    rw e (search rules)
 
-pub returns-in-None : goal.returns-in-None
-returns-in-None c =
+pub returns-in_err-word-clause-leaves : goal.returns-in_err-word-clause-leaves
+returns-in_err-word-clause-leaves c =
     let s = c.args.self.now in
-    let w = c.next_word-begins in
-    let e = numbers_next s.input.now s.place w.result.0 w.result.1 w.ensures.begins w.ensures.ends
-    ∙ ap (λ o. leading o (numbers_in (drop w.result.1 s.input.now))) (sym c.in-None.ensures) in
-    record {
-      gives = sym (ap first_waiting e);
-      leaves = ap (λ ns. open32 ns (numbers_in (take s.output.used s.output.bytes.now)) s.room) e
-          ∙ sym (ap (λ ns. open32 (rest_of ns) (numbers_in (take s.output.used s.output.bytes.now)) s.room) e);
-      holds = refl;
-    }
+    let none : c.next.result ≡ None = search rules in
+    let e = none_waits s.input.now s.place (MatchOption-at_none _ _ none c.next.ensures.steps).0 in
+    rw e
+
+pub returns-in_err-n-clause-gives : goal.returns-in_err-n-clause-gives
+returns-in_err-n-clause-gives c =
+    let s = c.args.self.now in
+    let w = c.in_ok-word.word in
+    let some : c.next.result ≡ Some w = search rules in
+    let taken = word_after s.input.now s.place w.place w.bytes.now _ s.read (MatchOption-at_some _ _ w some c.next.ensures.steps) in
+    let none : number_of w.bytes.now ≡ None = search rules in
+    let e = malformed_waits s.input.now s.place w.place w.bytes.now taken none in
+    rw e (search rules)
+
+pub returns-in_err-n-clause-leaves : goal.returns-in_err-n-clause-leaves
+returns-in_err-n-clause-leaves c =
+    let s = c.args.self.now in
+    let w = c.in_ok-word.word in
+    let some : c.next.result ≡ Some w = search rules in
+    let taken = word_after s.input.now s.place w.place w.bytes.now _ s.read (MatchOption-at_some _ _ w some c.next.ensures.steps) in
+    let none : number_of w.bytes.now ≡ None = search rules in
+    let e = malformed_waits s.input.now s.place w.place w.bytes.now taken none in
+    rw e
+
+pub overflow_add-self : goal.overflow_add-self
+overflow_add-self c =
+    let s = c.args.self.now in
+    let w = c.in_ok-word.word in
+    let some : c.next.result ≡ Some w = search rules in
+    let taken = word_after s.input.now s.place w.place w.bytes.now _ s.read (MatchOption-at_some _ _ w some c.next.ensures.steps) in
+    search rules
+
+pub invariant_of-self : goal.invariant_of-self
+invariant_of-self c =
+    let s = c.args.self.now in
+    let w = c.in_ok-word.word in
+    let some : c.next.result ≡ Some w = search rules in
+    let taken = word_after s.input.now s.place w.place w.bytes.now _ s.read (MatchOption-at_some _ _ w some c.next.ensures.steps) in
+    record { read = taken.within; roomy = s.roomy; wrote = s.wrote }
+
+pub returns-clause-gives : goal.returns-clause-gives
+returns-clause-gives c =
+    let s = c.args.self.now in
+    let w = c.in_ok-word.word in
+    let some : c.next.result ≡ Some w = search rules in
+    let taken = word_after s.input.now s.place w.place w.bytes.now _ s.read (MatchOption-at_some _ _ w some c.next.ensures.steps) in
+    let number : number_of w.bytes.now ≡ Some c.in_ok-n.n = search rules in
+    let e = number_waits s.input.now s.place w.place w.bytes.now c.in_ok-n.n taken number in
+    let f : SFits w32 c.in_ok-n.n = search rules in
+    rw e (ap Ok (to_z-of_z w32 c.in_ok-n.n f))
+
+pub returns-clause-leaves : goal.returns-clause-leaves
+returns-clause-leaves c =
+    let s = c.args.self.now in
+    let w = c.in_ok-word.word in
+    let some : c.next.result ≡ Some w = search rules in
+    let taken = word_after s.input.now s.place w.place w.bytes.now _ s.read (MatchOption-at_some _ _ w some c.next.ensures.steps) in
+    let number : number_of w.bytes.now ≡ Some c.in_ok-n.n = search rules in
+    let e = number_waits s.input.now s.place w.place w.bytes.now c.in_ok-n.n taken number in
+    rw e
