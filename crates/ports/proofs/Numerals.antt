@@ -2,6 +2,7 @@
 use Rattle.std.proofs.Common.{◌≡◌, ℕ, zero, suc, ◌+◌, ◌-◌, ◌*◌, ◌<◌, ◌≤◌, Bool, true, false, cond, ◌&&◌, eqb, leb, List, [], ◌∷◌, slice_index_or, drop, ℤ, pos, neg_ℤ, Some, None, Option, Ok, Err, Result, sym, refl, ap, ◌∙◌, subst, arith, w32, SFits}
 use Rattle.std.specs.Char.{digit_value}
 use Rattle.std.specs.List.{starts_with}
+use Rattle.std.specs.Option.{option_map}
 use Rattle.std.specs.Result.{result_ok}
 use Rattle.std.specs.Str.{IsAscii, IsUtf8}
 use Rattle.std.specs.Str.Parse.{AllDigits, IsNumeral, digits_value, digits_value_after, without_leading_plus, without_leading_sign, signed_digits_value, ParsesSigned}
@@ -9,7 +10,7 @@ use Rattle.std.proofs.lemmas.Bool.{le-leb, leb-true, eq-eqb, ne_eqb, eqb-true, a
 use Rattle.std.proofs.lemmas.Fmt.{IsAscii-from_digits}
 use Rattle.std.proofs.lemmas.Str.{IsUtf8-from_ascii, digit_value_digit}
 use Rattle.std.proofs.lemmas.Str.Parse.{digit_from_value}
-use Rattle.ports.specs.Words.{digit, magnitude_from, magnitude_of, mapped, number_of}
+use Rattle.ports.specs.Words.{digit, magnitude_from, magnitude_of, number_of}
 
 digit_bounds : (d : ℕ) → digit d ≡ true → (48 ≤ d) × (d ≤ 57)
 digit_bounds d h = let p = and_parts (leb 48 d) (leb d 57) h in (leb-true 48 d p.0, leb-true d 57 p.1)
@@ -57,7 +58,7 @@ abbrev signed : ℕ → ℤ
 signed n = neg_ℤ (pos n)
 
 abbrev by_minus : Bool → List ℕ → List ℕ → Option ℤ
-by_minus t bs w = cond t (mapped signed (magnitude_of 2147483648 bs)) (mapped pos (magnitude_of 2147483647 w))
+by_minus t bs w = cond t (option_map signed (magnitude_of 2147483648 bs)) (option_map pos (magnitude_of 2147483647 w))
 
 pub number_digits : (ds : List ℕ) → IsNumeral 10 ds → digits_value 10 ds ≤ 2147483647 → number_of ds ≡ Some (pos (digits_value 10 ds))
 unfolding number_of
@@ -65,11 +66,11 @@ number_digits [] h k = absurd (omega (arith, h.0))
 number_digits (d ∷ ds) h k =
     let p = digit_from_value d h.1.0 in
     ap (λ t. by_minus t ds (d ∷ ds)) (ne_eqb d 45 (λ q. omega arith))
-    ∙ ap (mapped pos) (magnitude_of_gives 2147483647 (d ∷ ds) h k)
+    ∙ ap (option_map pos) (magnitude_of_gives 2147483647 (d ∷ ds) h k)
 
 pub number_negative : (ds : List ℕ) → IsNumeral 10 ds → digits_value 10 ds ≤ 2147483648 → number_of (45 ∷ ds) ≡ Some (signed (digits_value 10 ds))
 unfolding number_of
-number_negative ds h k = ap (mapped signed) (magnitude_of_gives 2147483648 ds h k)
+number_negative ds h k = ap (option_map signed) (magnitude_of_gives 2147483648 ds h k)
 
 fits_signed : (n : ℕ) → n ≤ 2147483648 → SFits w32 (signed n)
 fits_signed zero h = record { sfits = omega arith }
@@ -94,7 +95,7 @@ pub record Reads (w : List ℕ) (z : ℤ) : Type 0 where
   pub fits : SFits w32 z
   pub same : signed_digits_value 10 w ≡ z
 
-mapped_some : (f : ℕ → ℤ) (o : Option ℕ) (z : ℤ) (P : Type 0) → ((v : ℕ) → o ≡ Some v → f v ≡ z → P) → mapped f o ≡ Some z → P
+mapped_some : (f : ℕ → ℤ) (o : Option ℕ) (z : ℤ) (P : Type 0) → ((v : ℕ) → o ≡ Some v → f v ≡ z → P) → option_map f o ≡ Some z → P
 mapped_some f None z P h e = absurd (cc)
 mapped_some f (Some v) z P h e = h v refl (cc)
 
@@ -122,12 +123,12 @@ number_gives [] n p f = absurd (omega (arith, p.0))
 number_gives (b ∷ bs) n p f = go (eqb b 45) refl p f
   where
     go : (t : Bool) → eqb b 45 ≡ t → IsNumeral 10 (signless t b bs) → SFits w32 (value t b bs) → by_minus (eqb b 45) bs (b ∷ bs) ≡ Some (value t b bs)
-    go true t p f = ap (λ (u : Bool). by_minus u bs (b ∷ bs)) t ∙ ap (mapped signed) (magnitude_of_gives 2147483648 bs p (signed_fits (digits_value 10 bs) f))
+    go true t p f = ap (λ (u : Bool). by_minus u bs (b ∷ bs)) t ∙ ap (option_map signed) (magnitude_of_gives 2147483648 bs p (signed_fits (digits_value 10 bs) f))
     go false t p f =
         let plus = no_plus b bs n in
         let q : IsNumeral 10 (b ∷ bs) = subst (IsNumeral 10) plus p in
         let k : SFits w32 (pos (digits_value 10 (b ∷ bs))) = subst (λ l. SFits w32 (pos (digits_value 10 l))) plus f in
-        ap (λ (u : Bool). by_minus u bs (b ∷ bs)) t ∙ ap (mapped pos) (magnitude_of_gives 2147483647 (b ∷ bs) q (omega (arith, k.sfits)))
+        ap (λ (u : Bool). by_minus u bs (b ∷ bs)) t ∙ ap (option_map pos) (magnitude_of_gives 2147483647 (b ∷ bs) q (omega (arith, k.sfits)))
         ∙ ap (λ l. Some (pos (digits_value 10 l))) (sym plus)
 
 pub number_plus : (w : List ℕ) → starts_with eqb w (43 ∷ []) ≡ true → None ≡ number_of w

@@ -160,8 +160,8 @@ numbers_next text i p w t =
 pub none_waits : (text : List ℕ) (i : ℕ) → words_from i text ≡ [] → numbers_in (drop i text) ≡ []
 none_waits text i e = numbers_from i text ∙ ap spelled_by e
 
-pub malformed_waits : (text : List ℕ) (i p : ℕ) (w : List ℕ) → Taken text i p w → number_of w ≡ None → numbers_in (drop i text) ≡ []
-malformed_waits text i p w t e = numbers_next text i p w t ∙ ap (λ o. leading o (numbers_in (drop (p + length w) text))) e
+pub malformed_waits : (text : List ℕ) (i p : ℕ) (w : List ℕ) → Taken text i p w → None ≡ number_of w → numbers_in (drop i text) ≡ []
+malformed_waits text i p w t e = numbers_next text i p w t ∙ ap (λ o. leading o (numbers_in (drop (p + length w) text))) (sym e)
 
-pub number_waits : (text : List ℕ) (i p : ℕ) (w : List ℕ) (n : ℤ) → Taken text i p w → number_of w ≡ Some n → numbers_in (drop i text) ≡ n ∷ numbers_in (drop (p + length w) text)
-number_waits text i p w n t e = numbers_next text i p w t ∙ ap (λ o. leading o (numbers_in (drop (p + length w) text))) e
+pub number_waits : (text : List ℕ) (i p : ℕ) (w : List ℕ) (n : ℤ) → Taken text i p w → Some n ≡ number_of w → numbers_in (drop i text) ≡ n ∷ numbers_in (drop (p + length w) text)
+number_waits text i p w n t e = numbers_next text i p w t ∙ ap (λ o. leading o (numbers_in (drop (p + length w) text))) (sym e)

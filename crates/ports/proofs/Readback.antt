@@ -36,7 +36,7 @@ digits_whole (d ∷ ds) (h, hs) = (digit_solid d (digit_from_value d h), digits_
 
 numbers_of_word : (w : List ℕ) (n : ℤ) (ps : List (List ℕ)) → number_of w ≡ Some n → numbers_of (w ∷ ps) ≡ n ∷ numbers_of ps
 unfolding number_of
-numbers_of_word [] n ps e = let z : ◌≡◌ {A = ℕ} 0 1 = cc in absurd (omega arith)
+numbers_of_word [] n ps e = absurd (cc)
 numbers_of_word (b ∷ w) n ps e = ap (λ o. leading o (numbers_of ps)) e
 
 -- what a number's range says of its digits

@@ -40,15 +40,11 @@ abbrev pub magnitude_of : ℕ → List ℕ → Option ℕ
 magnitude_of most [] = None
 magnitude_of most (d ∷ ds) = magnitude_from most 0 (d ∷ ds)
 
-abbrev pub mapped : (ℕ → ℤ) → Option ℕ → Option ℤ
-mapped f None = None
-mapped f (Some n) = Some (f n)
-
 -- the number of 32 bits that a word spells: `-` or nothing, and then digits
 unfoldable pub number_of : List ℕ → Option ℤ
 number_of [] = None
 number_of (b ∷ bs) =
-    cond (b == 45) (mapped (λ n. neg_ℤ (pos n)) (magnitude_of 2147483648 bs)) (mapped pos (magnitude_of 2147483647 (b ∷ bs)))
+    cond (b == 45) (option_map (λ n. neg_ℤ (pos n)) (magnitude_of 2147483648 bs)) (option_map pos (magnitude_of 2147483647 (b ∷ bs)))
 
 -- a number before others, or none where the first is missing
 abbrev pub leading : Option ℤ → List ℤ → List ℤ

@@ -7,7 +7,7 @@ use crate::faults::{PortFault, RangeFault};
 use crate::interface::Port;
 
 /// The numbers from `low` to `high`, one at least.
-#[derive(Clone, Copy)]
+#[derive(Clone, Copy, PartialEq, Eq, Debug)]
 pub struct Range {
     low: i32,
     high: i32,

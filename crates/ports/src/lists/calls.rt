@@ -24,7 +24,7 @@ impl<'i, 'o> ListPort<'i, 'o> {
     pub fn written(&self) -> &[i32]
         ensures { result.now ≡ (list_meaning self.now).written }
     {
-        &self.output[0..self.used]
+        &self.output[..self.used]
     }
 }
 

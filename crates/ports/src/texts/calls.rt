@@ -42,7 +42,7 @@ impl<'i, 'o> TextPort<'i, 'o> {
     pub fn written(&self) -> &[u8]
         ensures { result.now ≡ spellings (text_meaning self.now).written }
     {
-        &self.output.bytes[0..self.output.used]
+        &self.output.bytes[..self.output.used]
     }
 
     /// Writes a number as decimal and line feed into the unused rest of the output, and touches no other byte.
