@@ -8,6 +8,7 @@ use Rattle.std.specs.Str.{IsAscii, IsUtf8}
 use Rattle.std.specs.Str.Parse.{AllDigits, IsNumeral, digits_value, digits_value_after, without_leading_plus, without_leading_sign, signed_digits_value, ParsesSigned}
 use Rattle.std.proofs.lemmas.Bool.{le-leb, leb-true, eq-eqb, ne_eqb, eqb-true, and_parts, and_from}
 use Rattle.std.proofs.lemmas.Fmt.{IsAscii-from_digits}
+use Rattle.std.proofs.lemmas.Option.{cond_some}
 use Rattle.std.proofs.lemmas.Str.{IsUtf8-from_ascii, digit_value_digit}
 use Rattle.std.proofs.lemmas.Str.Parse.{digit_from_value}
 use Rattle.ports.specs.Words.{digit, magnitude_from, magnitude_of, number_of}
@@ -22,11 +23,7 @@ digit_is d h =
 
 -- What digits spell after those of n, both ways.
 magnitude_reads : (most n : ℕ) (ds : List ℕ) (v : ℕ) → magnitude_from most n ds ≡ Some v → AllDigits 10 ds × (digits_value_after 10 n ds ≡ v) × (v ≤ most)
-magnitude_reads most n [] v e = go (leb n most) refl e
-  where
-    go : (t : Bool) → leb n most ≡ t → cond t (Some n) None ≡ Some v → Unit {0} × (n ≡ v) × (v ≤ most)
-    go true t e = let same : n ≡ v = cc in (tt, same, omega (arith, leb-true n most t))
-    go false t e = absurd (cc)
+magnitude_reads most n [] v e = let c = cond_some (leb n most) n v e in (tt, c.1, omega (arith, c.1, leb-true n most c.0))
 magnitude_reads most n (d ∷ ds) v e = go (digit d) refl (magnitude_reads most (n * 10 + (d - 48)) ds v) e
   where
     go : (t : Bool) → digit d ≡ t → (magnitude_from most (n * 10 + (d - 48)) ds ≡ Some v → AllDigits 10 ds × (digits_value_after 10 (n * 10 + (d - 48)) ds ≡ v) × (v ≤ most)) → cond t (magnitude_from most (n * 10 + (d - 48)) ds) None ≡ Some v → AllDigits 10 (d ∷ ds) × (digits_value_after 10 n (d ∷ ds) ≡ v) × (v ≤ most)

@@ -2,9 +2,11 @@
 use Rattle.std.proofs.Common.{◌≡◌, ℕ, suc, ◌+◌, ◌<◌, ◌≤◌, Bool, true, false, cond, not, ltb, List, [], ◌∷◌, length, get_or, drop, ℤ, Some, None, Option, sym, refl, ap, ◌∙◌, subst, inl, inr, add-zero, arith}
 use Rattle.std.specs.List.{position, position_or_len, before_first}
 use Rattle.std.proofs.lemmas.Bool.{ltb-true, ltb-false}
-use Rattle.std.proofs.lemmas.Bool.{cases_lt}
+use Rattle.std.proofs.lemmas.Bool.{not-false, not-true, cases_lt}
+use Rattle.std.proofs.lemmas.Option.{cond_some}
 use Rattle.std.proofs.lemmas.List.{drop_all, drop_more, drop-drop, length-drop, take_all}
 use Rattle.std.proofs.lemmas.List.Folds.{length-prefix_len}
+use Rattle.std.proofs.lemmas.List.Quantifiers.{position-Some}
 use Rattle.std.proofs.lemmas.List.Splits.{slice_split-cons_yes, slice_split_none, slice_split_first}
 use Rattle.std.proofs.lemmas.List.Sums.{prefix_len-le-length, prefix_len_stops, fails_before_first}
 use Rattle.ports.specs.Words.{blank, solid, pieces, words_of, words_from, number_of, leading, numbers_of, numbers_in}
@@ -32,17 +34,13 @@ record Piece (bs : List ℕ) : Type 0 where
   split : pieces bs ≡ before_first blank bs ∷ later
   words : (j : ℕ) → words_of (j + 1) later ≡ words_of j (pieces (drop (position_or_len blank bs) bs))
 
-stop_blank : (b : Bool) → not b ≡ false → b ≡ true
-stop_blank true e = refl
-stop_blank false e = absurd (cc)
-
 piece_of : (bs : List ℕ) → Piece bs
 piece_of bs = elim (cases_lt (position_or_len blank bs) (length bs)) [
   | inl h ↦ record {
     later = pieces (drop (position_or_len blank bs + 1) bs);
     split = slice_split_first blank bs 0 h;
     words = λ j.
-        let stop = stop_blank (blank (get_or bs (position_or_len blank bs) 0)) (prefix_len_stops (λ x. not (blank x)) bs 0 h) in
+        let stop = not-false (blank (get_or bs (position_or_len blank bs) 0)) (prefix_len_stops (λ x. not (blank x)) bs 0 h) in
         sym (ap (λ l. words_of j (pieces l)) (drop_more bs (position_or_len blank bs) 0 h)
         ∙ ap (words_of j) (slice_split-cons_yes blank (get_or bs (position_or_len blank bs) 0) (drop (position_or_len blank bs + 1) bs) stop));
   }
@@ -67,11 +65,9 @@ words_word j bs h =
     ∙ ap (λ ws. (j, before_first blank bs) ∷ ws) (p.words (j + length (before_first blank bs)))
 
 found : (p : ℕ → Bool) (xs : List ℕ) (k : ℕ) → Some k ≡ position p xs → (k ≡ position_or_len p xs) × (k < length xs)
-found p xs k e = go (ltb (position_or_len p xs) (length xs)) refl e
-  where
-    go : (t : Bool) → ltb (position_or_len p xs) (length xs) ≡ t → Some k ≡ cond t (Some (position_or_len p xs)) None → (k ≡ position_or_len p xs) × (k < length xs)
-    go true t e = let same : k ≡ position_or_len p xs = cc in (same, omega (arith, ltb-true (position_or_len p xs) (length xs) t))
-    go false t e = absurd (cc)
+found p xs k e =
+    let c = cond_some (ltb (position_or_len p xs) (length xs)) (position_or_len p xs) k (sym e) in
+    (sym c.1, omega (arith, c.1, ltb-true (position_or_len p xs) (length xs) c.0))
 
 missing : (p : ℕ → Bool) (xs : List ℕ) → None ≡ position p xs → length xs ≤ position_or_len p xs
 missing p xs e = go (ltb (position_or_len p xs) (length xs)) refl e
@@ -85,10 +81,6 @@ pub record Taken (text : List ℕ) (i p : ℕ) (bytes : List ℕ) : Type 0 where
   pub within : p + length bytes ≤ length text
   pub words : words_from i text ≡ (p, bytes) ∷ words_from (p + length bytes) text
 
-solid_first : (b : Bool) → not (not b) ≡ false → b ≡ false
-solid_first true e = absurd (cc)
-solid_first false e = refl
-
 some_piece : (x : ℕ) (xs bs : List ℕ) → bs ≡ x ∷ xs → blank x ≡ false → 0 < position_or_len blank bs
 some_piece x xs bs e h =
     let one : position_or_len blank bs ≡ 1 + position_or_len blank xs = ap (position_or_len blank) e ∙ ap (λ (t : Bool). cond (not t) (1 + position_or_len blank xs) 0) h in
@@ -101,8 +93,7 @@ word_taken text rest tail bytes i k h r s t b =
     let long = ap length r ∙ length-drop i text in
     let here : k < length rest = f.1 in
     let at : tail ≡ get_or rest k 0 ∷ drop (k + 1) rest = t ∙ drop_more rest k 0 here in
-    let stops = prefix_len_stops (λ x. not (solid x)) rest 0 (omega (arith, f.0)) in
-    let stop : blank (get_or rest k 0) ≡ false = solid_first (blank (get_or rest k 0)) (ap (λ x. not (solid (get_or rest x 0))) f.0 ∙ stops) in
+    let stop = not-true (blank (get_or rest k 0)) (position-Some solid rest k 0 (sym s)).1 in
     let some = some_piece (get_or rest k 0) (drop (k + 1) rest) tail at stop in
     let size : length bytes ≡ position_or_len blank tail = ap length b ∙ length-prefix_len (λ x. not (blank x)) tail in
     let most = prefix_len-le-length (λ x. not (blank x)) tail in

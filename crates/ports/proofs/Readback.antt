@@ -7,7 +7,7 @@ use Rattle.std.proofs.lemmas.Fmt.{decimal_is_IsNumeral}
 use Rattle.std.proofs.lemmas.List.{append_assoc, append-nil}
 use Rattle.std.proofs.lemmas.List.Elements.{All-from_recursion}
 use Rattle.std.proofs.lemmas.List.Splits.{slice_split_at}
-use Rattle.std.proofs.lemmas.Bool.{leb-true, ne_eqb, and_parts}
+use Rattle.std.proofs.lemmas.Bool.{leb-true, and_parts}
 use Rattle.std.proofs.lemmas.Str.Parse.{digit_from_value}
 use Rattle.ports.specs.Spellings.{sign_of, spelled, spellings, fits32, ReadBack}
 use Rattle.ports.specs.Words.{blank, pieces, number_of, leading, numbers_of, numbers_in}
@@ -16,12 +16,7 @@ use Rattle.ports.proofs.Ranges.{all_within}
 
 -- a digit is no blank
 digit_solid : (d : ℕ) → IsInRange 48 57 d → blank d ≡ false
-digit_solid d p =
-    let a = ne_eqb d 32 (λ e. omega arith) in
-    let b = ne_eqb d 9 (λ e. omega arith) in
-    let c = ne_eqb d 10 (λ e. omega arith) in
-    let k = ne_eqb d 13 (λ e. omega arith) in
-    simp (a, b, c, k)
+digit_solid d p = grind arith
 
 -- a word, and then a line feed
 abbrev Whole : List ℕ → Type 0
