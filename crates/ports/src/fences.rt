@@ -51,7 +51,7 @@ impl<'p, P: Port> Fence<'p, P> {
     }
 }
 
-impl<'p, P: Port> Port for Fence<'p, P> {
+impl<P: Port> Port for Fence<'_, P> {
     ghost meaning = { λ s. fenced s.range (P.Port.meaning s.under.now) };
 
     ghost lent = { λ s. s.under.ghost_name ∷ P.Port.lent s.under.now };

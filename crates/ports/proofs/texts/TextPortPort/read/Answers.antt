@@ -3,7 +3,7 @@ use Rattle.std.proofs.lemmas.Int.{to_z-of_z}
 use Rattle.std.proofs.lemmas.Option.{MatchOption-at_none, MatchOption-at_some}
 use Rattle.ports.specs.Words.{number_of}
 use Rattle.ports.proofs.Pieces.{word_after, none_waits, malformed_waits, number_waits}
-use Rattle.ports.proofs.texts.calls.TextPortPort.read.Goals as goal
+use Rattle.ports.proofs.texts.TextPortPort.read.Goals as goal
 
 pub returns-in_err-word : goal.returns-in_err-word
 returns-in_err-word c =
