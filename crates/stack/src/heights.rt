@@ -28,10 +28,7 @@ impl Drop for Restore<'_> {
     fn drop(self)
         ensures { self.exit.0.now.entries ≡ self.entry.saved }
     {
-        self.height.entries = self.saved;
-        let Restore {
-            height: _,
-            saved: _,
-        } = self;
+        let Restore { height, saved } = self;
+        height.entries = saved;
     }
 }

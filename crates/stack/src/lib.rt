@@ -20,39 +20,17 @@ mod tests {
     use super::heights::*;
     use super::stacks::*;
 
-    #[derive(Clone, Copy)]
+    #[derive(Clone, Copy, PartialEq, Eq, Debug)]
     struct Mark(u16);
 
     impl Entry for Mark {
-        ghost limit = { 3 };
+        ghost LIMIT = { 3 };
 
-        ghost overflow = { 26 };
+        ghost OVERFLOW = { 26 };
 
         const LIMIT: usize = 3;
 
         const OVERFLOW: u8 = 26;
-
-        fn most() -> usize {
-            Self::LIMIT
-        }
-
-        fn refusal() -> u8 {
-            Self::OVERFLOW
-        }
-    }
-
-    fn value(o: Option<Mark>) -> u16 {
-        match o {
-            Some(Mark(n)) => n,
-            None => 0,
-        }
-    }
-
-    fn number(r: Result<(), Overflow>) -> u8 {
-        match r {
-            Ok(()) => 0,
-            Err(overflow) => overflow.number,
-        }
     }
 
     #[test]
@@ -60,18 +38,21 @@ mod tests {
         let mut slots = [Mark(0); 5];
         let mut height = Height { entries: 0 };
         let mut stack = Stack { slots: &mut slots };
-        assert_eq!(rt; value(stack.pop(&mut height)), 0);
-        assert_eq!(rt; number(stack.push(&mut height, Mark(7))), 0);
-        assert_eq!(rt; number(stack.push(&mut height, Mark(8))), 0);
-        assert_eq!(rt; number(stack.push(&mut height, Mark(9))), 0);
-        assert_eq!(rt; number(stack.push(&mut height, Mark(10))), 26);
+        assert_eq!(rt; stack.pop(&mut height), None);
+        assert_eq!(rt; stack.push(&mut height, Mark(7)), Ok(()));
+        assert_eq!(rt; stack.push(&mut height, Mark(8)), Ok(()));
+        assert_eq!(rt; stack.push(&mut height, Mark(9)), Ok(()));
+        assert_eq!(rt;
+            stack.push(&mut height, Mark(10)),
+            Err(Overflow { number: 26 })
+        );
         assert_eq!(rt; height.entries, 3);
         assert!(rt; stack.change(&height, 0, Mark(6)));
         assert!(rt; !stack.change(&height, 3, Mark(5)));
-        assert_eq!(rt; value(stack.get(&height, 0)), 6);
-        assert_eq!(rt; value(stack.get(&height, 3)), 0);
-        assert_eq!(rt; value(stack.pop(&mut height)), 9);
-        assert_eq!(rt; value(stack.pop(&mut height)), 8);
+        assert_eq!(rt; stack.get(&height, 0), Some(Mark(6)));
+        assert_eq!(rt; stack.get(&height, 3), None);
+        assert_eq!(rt; stack.pop(&mut height), Some(Mark(9)));
+        assert_eq!(rt; stack.pop(&mut height), Some(Mark(8)));
         assert_eq!(rt; height.entries, 1);
     }
 
@@ -80,10 +61,13 @@ mod tests {
         let mut slots = [Mark(0); 1];
         let mut height = Height { entries: 0 };
         let mut stack = Stack { slots: &mut slots };
-        assert_eq!(rt; number(stack.push(&mut height, Mark(7))), 0);
-        assert_eq!(rt; number(stack.push(&mut height, Mark(8))), 26);
+        assert_eq!(rt; stack.push(&mut height, Mark(7)), Ok(()));
+        assert_eq!(rt;
+            stack.push(&mut height, Mark(8)),
+            Err(Overflow { number: 26 })
+        );
         height.entries = 2;
-        assert_eq!(rt; value(stack.pop(&mut height)), 0);
+        assert_eq!(rt; stack.pop(&mut height), None);
         assert_eq!(rt; height.entries, 2);
     }
 
@@ -98,10 +82,10 @@ mod tests {
         let mut slots = [Mark(0); 3];
         let mut height = Height { entries: 1 };
         let mut stack = Stack { slots: &mut slots };
-        assert_eq!(rt; number(two(&mut stack, &mut height)), 0);
+        assert_eq!(rt; two(&mut stack, &mut height), Ok(()));
         assert_eq!(rt; height.entries, 1);
         height.entries = 2;
-        assert_eq!(rt; number(two(&mut stack, &mut height)), 26);
+        assert_eq!(rt; two(&mut stack, &mut height), Err(Overflow { number: 26 }));
         assert_eq!(rt; height.entries, 2);
     }
 }

@@ -4,22 +4,31 @@ ghost use Rattle.stack.specs.Stacks.{Pushed, Grown, Popped, Shrunk, Looked, Chan
 
 use crate::entries::Entry;
 use crate::heights::Height;
+use refusals::Fault;
 
 /// An entry that found no place.
-#[derive(Clone, Copy)]
+#[derive(Clone, Copy, PartialEq, Eq, Debug)]
 pub struct Overflow {
     pub number: u8,
 }
 
+impl Fault for Overflow {
+    ghost number = { λ o. o.number };
+
+    fn number(self) -> u8 {
+        self.number
+    }
+}
+
 /// Puts an entry on.
 pub fn put_on<E: Entry>(slots: &mut [E], height: &mut Height, entry: E) -> Result<(), Overflow>
-    ensures pushed { Pushed E.limit E.overflow slots.old height.old.entries entry result slots.new height.new.entries }
+    ensures pushed { Pushed E.LIMIT E.OVERFLOW slots.old height.old.entries entry result slots.new height.new.entries }
     ensures grown { Grown slots.old height.old.entries entry result slots.new height.new.entries }
 {
     let at = height.entries;
-    if at >= E::most() || at >= slots.len() {
+    if at >= E::LIMIT || at >= slots.len() {
         return Err(Overflow {
-            number: E::refusal(),
+            number: E::OVERFLOW,
         });
     }
     slots[at] = entry;
@@ -32,23 +41,17 @@ pub fn take_off<E: Entry>(slots: &[E], height: &mut Height) -> Option<E>
     ensures popped { Popped slots.now height.old.entries result height.new.entries }
     ensures shrunk { Shrunk slots.now height.old.entries result height.new.entries }
 {
-    let entries = height.entries;
-    if entries == 0 || entries > slots.len() {
-        return None;
-    }
-    height.entries = entries - 1;
-    Some(slots[entries - 1])
+    let top = height.entries.checked_sub(1)?;
+    let entry = slots.get(top).copied()?;
+    height.entries = top;
+    Some(entry)
 }
 
 /// The entry at i, from the lowest.
 pub fn look_at<E: Entry>(slots: &[E], height: &Height, i: usize) -> Option<E>
     ensures { Looked slots.now height.now.entries i result }
 {
-    if i < height.entries && i < slots.len() {
-        Some(slots[i])
-    } else {
-        None
-    }
+    slots.get(i).copied().filter(|_| i < height.entries)
 }
 
 /// Puts another entry in the place of the one at i, from the lowest; false where there is none.
@@ -56,11 +59,11 @@ pub fn change_at<E: Entry>(slots: &mut [E], height: &Height, i: usize, entry: E)
     ensures changed { Changed slots.old height.now.entries i entry result slots.new }
     ensures entries { ChangedEntries slots.old height.now.entries i entry result slots.new }
 {
-    if i < height.entries && i < slots.len() {
-        slots[i] = entry;
-        return true;
+    if i >= height.entries.min(slots.len()) {
+        return false;
     }
-    false
+    slots[i] = entry;
+    true
 }
 
 /// A stack over lent slots.
@@ -72,7 +75,7 @@ pub struct Stack<'a, E> {
 impl<'a, E: Entry> Stack<'a, E> {
     /// Puts an entry on.
     pub fn push(&mut self, height: &mut Height, entry: E) -> Result<(), Overflow>
-        ensures pushed { Pushed E.limit E.overflow self.old.slots.now height.old.entries entry result self.new.slots.now height.new.entries }
+        ensures pushed { Pushed E.LIMIT E.OVERFLOW self.old.slots.now height.old.entries entry result self.new.slots.now height.new.entries }
         ensures grown { Grown self.old.slots.now height.old.entries entry result self.new.slots.now height.new.entries }
         ensures lent { self.new.slots.ghost_name ≡ self.old.slots.ghost_name }
     {
