@@ -2,14 +2,10 @@
 ghost use Rattle.std.specs.Prelude.{◌≡◌};
 ghost use Rattle.sets.specs.Faults.{fault_number, fault_slot};
 
-/// The number of the fault that a slot does not exist.
-const NO_SLOT: u8 = 56;
-
-/// The number of the fault that a set is full.
-const FULL: u8 = 46;
+use refusals::Fault;
 
 /// A refusal, with the slot that was asked for.
-#[derive(Clone, Copy, Debug, PartialEq)]
+#[derive(Clone, Copy, PartialEq, Eq, Debug)]
 pub enum SetFault {
     /// There is no such slot.
     NoSlot(u8),
@@ -17,24 +13,24 @@ pub enum SetFault {
     Full(u8),
 }
 
-impl SetFault {
-    /// The number by which the fault is known.
-    pub fn number(self) -> u8
-        ensures { result ≡ fault_number self }
-    {
+impl Fault for SetFault {
+    ghost number = { fault_number };
+
+    fn number(self) -> u8 {
         match self {
-            SetFault::NoSlot(_) => NO_SLOT,
-            SetFault::Full(_) => FULL,
+            SetFault::NoSlot(_) => 56,
+            SetFault::Full(_) => 46,
         }
     }
+}
 
+impl SetFault {
     /// The slot that was asked for.
     pub fn slot(self) -> u8
         ensures { result ≡ fault_slot self }
     {
         match self {
-            SetFault::NoSlot(slot) => slot,
-            SetFault::Full(slot) => slot,
+            SetFault::NoSlot(slot) | SetFault::Full(slot) => slot,
         }
     }
 }
