@@ -1,3 +1,4 @@
+pub mod Ends
 pub mod Inserting
 pub mod Members
 pub mod Ordering

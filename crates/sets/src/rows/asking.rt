@@ -1,39 +1,24 @@
 //! What a row tells of its set.
 ghost use Rattle.std.specs.Prelude.{◌≡◌, length, MatchResult};
 ghost use Rattle.sets.specs.Held.{items};
-ghost use Rattle.sets.specs.Searches.{before, Found, Missing};
+ghost use Rattle.sets.specs.Searches.{Found, Missing};
 ghost use Rattle.sets.specs.Sets.{has, least, greatest};
 
 use crate::rows::Row;
 
 impl Row {
-    /// How many numbers come before `n`, found by halving the part of the row that its place can be in.
-    fn place(&self, n: i32) -> usize
-        ensures { result ≡ before n (items self.now) }
+    /// The numbers, in rising order.
+    fn numbers(&self) -> &[i32]
+        ensures { result.now ≡ items self.now }
     {
-        let mut low = 0;
-        let mut high = self.count as usize;
-        while low < high {
-            let middle = low + (high - low) / 2;
-            if self.cells[middle] < n {
-                low = middle + 1;
-            } else {
-                high = middle;
-            }
-        }
-        low
+        &self.cells[..usize::from(self.count)]
     }
 
     /// Where `n` stands, or else where it belongs.
     pub(super) fn find(&self, n: i32) -> Result<usize, usize>
         ensures { MatchResult result (Found n (items self.now)) (Missing n (items self.now)) }
     {
-        let p = self.place(n);
-        if p < self.count as usize && self.cells[p] == n {
-            Ok(p)
-        } else {
-            Err(p)
-        }
+        self.numbers().binary_search(&n)
     }
 
     /// Whether `n` is a member.
@@ -54,21 +39,13 @@ impl Row {
     pub(crate) fn least(&self) -> Option<i32>
         ensures { result ≡ least (items self.now) }
     {
-        if self.count == 0 {
-            None
-        } else {
-            Some(self.cells[0])
-        }
+        self.numbers().first().copied()
     }
 
     /// The greatest number, unless the set is empty.
     pub(crate) fn greatest(&self) -> Option<i32>
         ensures { result ≡ greatest (items self.now) }
     {
-        if self.count == 0 {
-            None
-        } else {
-            Some(self.cells[self.count as usize - 1])
-        }
+        self.numbers().last().copied()
     }
 }

@@ -1,9 +1,8 @@
-use Rattle.std.proofs.Common.{◌-◌, get_or, pos, arith, w32, SFits, rules}
-use Rattle.std.proofs.lemmas.Int.{to_z-of_z}
-use Rattle.sets.proofs.Removing.{greatest_of}
+use Rattle.sets.specs.Held.{items}
+use Rattle.sets.proofs.Ends.{greatest_last}
 use Rattle.sets.proofs.rows.Row.greatest.Goals as goal
 
-pub returns-else-self-eq0 : goal.returns-else-self-eq0
-returns-else-self-eq0 c =
-    let fx : SFits w32 (get_or c.args.self.now.cells (c.args.self.now.count - 1) (pos 0)) = search rules in
-    simp to_z-of_z (greatest_of c.args.self.now.cells c.args.self.now.count c.if-self-eq0.false (omega arith))
+pub returns : goal.returns
+returns c =
+    let e = greatest_last (items c.args.self.now) in
+    cc
