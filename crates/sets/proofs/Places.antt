@@ -76,5 +76,5 @@ searched n xs (Ok p) r b s = found n xs p r b (exact_signed (get_or xs p (pos 0)
 searched n xs (Err p) r b s =
     let w = s (searchable_from_sorted int_cmp_total (λ y. y) xs n (sorted xs r)) in
     missing n xs p r b
-      (λ k h. less (get_or xs k (pos 0)) n (w.0 k (pos 0) (omega arith) h))
-      (λ h. greater (get_or xs p (pos 0)) n (w.1 p (pos 0) (omega arith) h))
+    (λ k h. less (get_or xs k (pos 0)) n (w.0 k (pos 0) (omega arith) h))
+    (λ h. greater (get_or xs p (pos 0)) n (w.1 p (pos 0) (omega arith) h))

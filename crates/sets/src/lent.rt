@@ -1,9 +1,8 @@
 //! A store over rows that the caller lends.
-ghost use Rattle.std.specs.Prelude.{◌≡◌, [], ◌∷◌, length, Ok};
-ghost use Rattle.sets.specs.Held.{held};
-ghost use Rattle.sets.specs.Sets.{cut, put_in};
+ghost use Rattle.std.specs.Prelude.{◌≡◌, [], ◌∷◌, length, Ok, Err, MatchResult};
+ghost use Rattle.sets.specs.Held.{items, held};
 ghost use Rattle.sets.specs.Shapes.{shaped};
-ghost use Rattle.sets.specs.Slots.{within, change, add_gives};
+ghost use Rattle.sets.specs.Slots.{at, within};
 
 use crate::faults::SetFault;
 use crate::rows::Row;
@@ -27,42 +26,14 @@ impl<'a> RowStore<'a> {
     {
         RowStore { rows }
     }
-}
 
-// The rows of a store are lent whole to the next three functions: a row can be changed in place behind a `&mut` that is
-// a variable, and not behind one that is a field.
-
-/// Empties the set in a slot.
-fn empty_in(rows: &mut [Row; ROWS], slot: u8) -> Result<(), SetFault>
-    ensures gives { result ≡ within slot (Ok tt) }
-    ensures leaves { held rows.new ≡ change slot (λ _. []) (held rows.old) }
-{
-    let i = place_of(slot)?;
-    rows[i].clear();
-    Ok(())
-}
-
-/// Puts `n` into the set in a slot.
-fn add_in(rows: &mut [Row; ROWS], slot: u8, n: i32) -> Result<(), SetFault>
-    ensures gives { result ≡ add_gives slot n (held rows.old) }
-    ensures leaves { held rows.new ≡ change slot (put_in n) (held rows.old) }
-{
-    let i = place_of(slot)?;
-    if rows[i].add(n) {
-        Ok(())
-    } else {
-        Err(SetFault::Full(slot))
+    /// The row of a slot.
+    fn row(&self, slot: u8) -> Result<&Row, SetFault>
+        ensures { MatchResult result (λ r. Ok (items r.now) ≡ within slot (Ok (at (held self.now.rows.now) slot))) (λ e. Err e ≡ within slot (Ok (at (held self.now.rows.now) slot))) }
+    {
+        let rows = &*self.rows;
+        Ok(&rows[place_of(slot)?])
     }
-}
-
-/// Takes `n` out of the set in a slot.
-fn remove_in(rows: &mut [Row; ROWS], slot: u8, n: i32) -> Result<(), SetFault>
-    ensures gives { result ≡ within slot (Ok tt) }
-    ensures leaves { held rows.new ≡ change slot (cut n) (held rows.old) }
-{
-    let i = place_of(slot)?;
-    rows[i].remove(n);
-    Ok(())
 }
 
 impl<'a> SetStore for RowStore<'a> {
@@ -73,39 +44,37 @@ impl<'a> SetStore for RowStore<'a> {
     ghost shape = { λ s. shaped s.rows.now s.full };
 
     fn empty(&mut self, slot: u8) -> Result<(), SetFault> {
-        empty_in(self.rows, slot)
+        let rows = &mut *self.rows;
+        rows[place_of(slot)?].clear();
+        Ok(())
     }
 
     fn add(&mut self, slot: u8, n: i32) -> Result<(), SetFault> {
-        add_in(self.rows, slot, n)
+        let rows = &mut *self.rows;
+        rows[place_of(slot)?]
+            .add(n)
+            .map_err(|_| SetFault::Full(slot))
     }
 
     fn remove(&mut self, slot: u8, n: i32) -> Result<(), SetFault> {
-        remove_in(self.rows, slot, n)
+        let rows = &mut *self.rows;
+        rows[place_of(slot)?].remove(n);
+        Ok(())
     }
 
-    // Each question goes by a variable for the same reason.
     fn member(&self, slot: u8, n: i32) -> Result<bool, SetFault> {
-        let i = place_of(slot)?;
-        let rows = &*self.rows;
-        Ok(rows[i].has(n))
+        Ok(self.row(slot)?.has(n))
     }
 
     fn count(&self, slot: u8) -> Result<u8, SetFault> {
-        let i = place_of(slot)?;
-        let rows = &*self.rows;
-        Ok(rows[i].size())
+        Ok(self.row(slot)?.size())
     }
 
     fn least(&self, slot: u8) -> Result<Option<i32>, SetFault> {
-        let i = place_of(slot)?;
-        let rows = &*self.rows;
-        Ok(rows[i].least())
+        Ok(self.row(slot)?.least())
     }
 
     fn greatest(&self, slot: u8) -> Result<Option<i32>, SetFault> {
-        let i = place_of(slot)?;
-        let rows = &*self.rows;
-        Ok(rows[i].greatest())
+        Ok(self.row(slot)?.greatest())
     }
 }

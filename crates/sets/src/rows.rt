@@ -8,6 +8,10 @@ mod changing;
 /// How many cells a row has, which is the most numbers that a set may have.
 const CELLS: usize = 64;
 
+/// A row that has no cell left for one more number.
+#[derive(Clone, Copy)]
+pub(crate) struct NoRoom;
+
 /// One set: its numbers in rising order, in the first `count` cells.
 #[derive(Clone, Copy)]
 pub struct Row {

@@ -1,8 +1,14 @@
+use Rattle.std.proofs.Common.{◌≡◌, get_or}
+use Rattle.sets.specs.Held.{items}
 use Rattle.sets.specs.Sets.{put_in}
-use Rattle.sets.proofs.Slots.{still_full}
+use Rattle.sets.proofs.Ordering.{seen}
+use Rattle.sets.proofs.Slots.{changed}
 use Rattle.sets.proofs.lent.RowStoreSetStore.add.Goals as goal
 
-pub invariant_of-self : goal.invariant_of-self
-invariant_of-self c =
+pub returns-clause-leaves : goal.returns-clause-leaves
+returns-clause-leaves c =
     let s = c.args.self.now in
-    record { full = still_full c.args.slot (put_in _) s.rows.now c.add_in.new.rows s.full c.add_in.ensures.leaves }
+    let i = c.in_ok-rows.field-0 in
+    let r = c.index-rows-branch.result in
+    let h = seen (λ m. items c.add.new.self ≡ put_in m (items (get_or s.rows.now i r))) c.args.n c.ranges.n c.add.ensures.leaves in
+    changed c.args.slot i c.in_ok-rows.ensures s.rows.now s.full r (put_in c.args.n) c.add.new.self h

@@ -1,8 +1,8 @@
 use Rattle.std.proofs.Common.{[]}
-use Rattle.sets.proofs.Slots.{still_full}
+use Rattle.sets.proofs.Slots.{changed}
 use Rattle.sets.proofs.lent.RowStoreSetStore.empty.Goals as goal
 
-pub invariant_of-self : goal.invariant_of-self
-invariant_of-self c =
+pub returns-clause-leaves : goal.returns-clause-leaves
+returns-clause-leaves c =
     let s = c.args.self.now in
-    record { full = still_full c.args.slot (λ _. []) s.rows.now c.empty_in.new.rows s.full c.empty_in.ensures.leaves }
+    changed c.args.slot c.in_ok-rows.field-0 c.in_ok-rows.ensures s.rows.now s.full c.index-rows-branch.result (λ _. []) c.clear.new.self c.clear.ensures
