@@ -21,7 +21,7 @@ module _ (slot i : ℕ) (e : ◌≡◌ {A = Result ℕ SetFault} (Ok i) (within 
   is_slot_lem =
       elim (cases_Bool (is_slot slot)) [
         | inl t ↦ t
-        | inr f ↦ let h = simp f at e in let z : ◌≡◌ {A = ℕ} 0 1 = cc in absurd (omega arith)
+        | inr f ↦ let h = simp f at e in cc
       ]
 
   is_place : i ≡ slot - 1
@@ -37,28 +37,10 @@ module _ (slot i : ℕ) (e : ◌≡◌ {A = Result ℕ SetFault} (Ok i) (within 
         let h : i < length rows = omega (arith, below) in
         ap (λ (k : ℕ). get_or (held rows) k []) (sym is_place) ∙ get_or-map items rows i past [] h
 
-    pub asked : {X : Type 0} (f : List ℤ → X) (x : X) → x ≡ f (items (get_or rows i past)) → ◌≡◌ {A = Result X SetFault} (Ok x) (within slot (Ok (f (at (held rows) slot))))
-    asked {X} f x h = simp (is_slot_lem, set_at, h)
-
     pub changed : (f : List ℤ → List ℤ) (r : Row) → items r ≡ f (items (get_or rows i past)) → held (set rows i r) ≡ change slot f (held rows)
     changed f r h = simp (is_slot_lem, set_at, ← h, ← is_place) (map-set items rows i r)
 
-    pub added : (n : ℤ) (b : Bool) → b ≡ takes n (items (get_or rows i past)) → ◌≡◌ {A = Result Unit SetFault} (cond b (Ok tt) (Err (Full slot))) (add_gives slot n (held rows))
-    added n b h = simp (is_slot_lem, set_at, h)
-
--- a change keeps the number of sets
-length_change : (slot : ℕ) (f : List ℤ → List ℤ) (S : List (List ℤ)) → length (change slot f S) ≡ length S
-length_change slot f S =
-    elim (cases_Bool (is_slot slot)) [ inl t ↦ simp (t, length-set) | inr g ↦ simp g ]
-
-pub still_full : (slot : ℕ) (f : List ℤ → List ℤ) (rows after : List Row) → length rows ≡ 32 → held after ≡ change slot f (held rows) → length after ≡ 32
-still_full slot f rows after full e =
-    sym (length-map after items) ∙ (ap length e ∙ (length_change slot f (held rows) ∙ (length-map rows items ∙ full)))
-
 -- ---- the laws of slots
-
-ok_err : {fault : SetFault} → ◌≡◌ {A = Result Unit SetFault} (Ok tt) (Err fault) → ⊥
-ok_err e = let z : ◌≡◌ {A = ℕ} 0 1 = cc in omega arith
 
 change_here : (slot : ℕ) (f : List ℤ → List ℤ) (S : List (List ℤ)) → is_slot slot ≡ true → length S ≡ 32 → at (change slot f S) slot ≡ f (at S slot)
 change_here slot f S t full =
@@ -84,7 +66,7 @@ add_full slot n S t l =
     let xs : List ℤ = at S slot in (
       λ e.
           elim (cases_Bool (takes n xs)) [
-            | inl k ↦ absurd (ok_err (sym (simp (t, k)) ∙ e))
+            | inl k ↦ let h = simp (t, k) at e in cc
             | inr k ↦ let p = or_parts (has n xs) (ltb (length xs) 64) k in (p.0, omega (arith, ltb-false (length xs) 64 p.1))
           ],
       λ p.
@@ -97,7 +79,7 @@ add_refused slot n S fault e =
     elim (cases_Bool (is_slot slot)) [
       | inl t ↦
           elim (cases_Bool (takes n (at S slot))) [
-            | inl k ↦ absurd (ok_err (sym (simp (t, k)) ∙ e))
+            | inl k ↦ let h = simp (t, k) at e in cc
             | inr k ↦ simp (t, k) (set-get_or S (slot - 1) [])
           ]
       | inr g ↦ simp g

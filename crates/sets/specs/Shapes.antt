@@ -1,14 +1,20 @@
 -- Rows hold sets of the shape that a store asks for.
-use Rattle.std.specs.Prelude.{◌≡◌, List, [], ◌∷◌, length}
-use Rattle.std.proofs.Common.{◌∙◌, arith, length-take}
+use Rattle.std.specs.Prelude.{◌≡◌, ℕ, ◌≤◌, List, [], ◌∷◌, length}
 use Rattle.std.specs.List.{AllByRecursion}
-use Rattle.std.proofs.lemmas.List.{length-map}
+use Rattle.std.proofs.Common.{◌∙◌, sym, subst}
+use Rattle.std.proofs.Math.Nat.{le_trans, min-le_left}
+use Rattle.std.proofs.lemmas.List.{length-map, length-take}
 use Rattle.sets.specs.declared.rows.Row.{Row}
 use Rattle.sets.specs.Held.{items, held}
 use Rattle.sets.specs.Slots.{Sound, Shaped}
 
 sound : (r : Row) → Sound (items r)
-sound r = record { rises = r.rises; fits = simp length-take (omega (arith, r.fit)) }
+sound r =
+    let AtMost64 : ℕ → Type 0 = λ m. m ≤ 64 in
+    record {
+      rises = r.rises;
+      fits = subst AtMost64 (sym (length-take r.count r.cells)) (le_trans (min-le_left r.count (length r.cells)) r.fit);
+    }
 
 each : (rows : List Row) → AllByRecursion Sound (held rows)
 each [] = tt

@@ -1,5 +1,6 @@
 //! A store over rows that the caller lends.
-ghost use Rattle.std.specs.Prelude.{◌≡◌, [], ◌∷◌, length, Ok, Err, MatchResult};
+ghost use Rattle.std.specs.Prelude.{◌≡◌, [], ◌∷◌, length, Ok};
+ghost use Rattle.std.specs.Result.{result_map_both};
 ghost use Rattle.sets.specs.Held.{items, held};
 ghost use Rattle.sets.specs.Shapes.{shaped};
 ghost use Rattle.sets.specs.Slots.{at, within};
@@ -29,7 +30,7 @@ impl<'a> RowStore<'a> {
 
     /// The row of a slot.
     fn row(&self, slot: u8) -> Result<&Row, SetFault>
-        ensures { MatchResult result (λ r. Ok (items r.now) ≡ within slot (Ok (at (held self.now.rows.now) slot))) (λ e. Err e ≡ within slot (Ok (at (held self.now.rows.now) slot))) }
+        ensures { result_map_both (λ r. items r.now) (λ e. e) result ≡ within slot (Ok (at (held self.now.rows.now) slot)) }
     {
         let rows = &*self.rows;
         Ok(&rows[place_of(slot)?])
