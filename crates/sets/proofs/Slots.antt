@@ -1,5 +1,6 @@
 -- What a store over rows answers and leaves, where there is such a slot.
 use Rattle.std.proofs.Common.{◌≡◌, ℕ, ◌-◌, ◌<◌, ◌≤◌, Bool, true, false, cond, ltb, leb, ◌≢◌, ◌↔◌, List, [], length, get_or, set, ℤ, Ok, Err, Result, sym, ap, ◌∙◌, inl, inr, arith}
+use Rattle.std.proofs.lemmas.Grind.{common_steps}
 use Rattle.std.proofs.lemmas.List.{get_or-map, get_or-set_same, get_or-set_other, length-map, length-set, map-set, set-get_or}
 use Rattle.std.proofs.lemmas.Bool.{cases_Bool, and_parts, or_from, or_parts, ltb-true, ltb-false, leb-true, le-ltb}
 use Rattle.sets.specs.declared.faults.SetFault.{SetFault}
@@ -43,47 +44,19 @@ module _ (slot i : ℕ) (e : ◌≡◌ {A = Result ℕ SetFault} (Ok i) (within 
 -- ---- the laws of slots
 
 change_here : (slot : ℕ) (f : List ℤ → List ℤ) (S : List (List ℤ)) → is_slot slot ≡ true → length S ≡ 32 → at (change slot f S) slot ≡ f (at S slot)
-change_here slot f S t full =
-    let b = slot_bounds slot t in
-    let h : slot - 1 < length S = omega arith in
-    simp t (get_or-set_same S (slot - 1) (f (at S slot)) [] h)
+change_here slot f S t full = grind (arith, common_steps)
 
 change_others : (slot other : ℕ) (f : List ℤ → List ℤ) (S : List (List ℤ)) → is_slot other ≡ true → other ≢ slot → at (change slot f S) other ≡ at S other
-change_others slot other f S o ne =
-    elim (cases_Bool (is_slot slot)) [
-      | inl t ↦
-          let b = slot_bounds slot t in
-          let d = slot_bounds other o in
-          simp t (get_or-set_other S (slot - 1) (other - 1) (f (at S slot)) [] (omega arith))
-      | inr g ↦ simp g
-    ]
+change_others slot other f S o ne = grind (arith, common_steps)
 
 change_none : (slot : ℕ) (f : List ℤ → List ℤ) (S : List (List ℤ)) → is_slot slot ≡ false → change slot f S ≡ S
 change_none slot f S g = simp g
 
 add_full : (slot : ℕ) (n : ℤ) (S : List (List ℤ)) → is_slot slot ≡ true → length (at S slot) ≤ 64 → (add_gives slot n S ≡ Err (Full slot)) ↔ ((has n (at S slot) ≡ false) × (length (at S slot) ≡ 64))
-add_full slot n S t l =
-    let xs : List ℤ = at S slot in (
-      λ e.
-          elim (cases_Bool (takes n xs)) [
-            | inl k ↦ let h = simp (t, k) at e in cc
-            | inr k ↦ let p = or_parts (has n xs) (ltb (length xs) 64) k in (p.0, omega (arith, ltb-false (length xs) 64 p.1))
-          ],
-      λ p.
-          let k = or_from (has n xs) (ltb (length xs) 64) p.0 (le-ltb (length xs) 64 (omega arith)) in
-          simp (t, k),
-    )
+add_full slot n S t l = grind (arith, common_steps)
 
 add_refused : (slot : ℕ) (n : ℤ) (S : List (List ℤ)) (fault : SetFault) → add_gives slot n S ≡ Err fault → change slot (put_in n) S ≡ S
-add_refused slot n S fault e =
-    elim (cases_Bool (is_slot slot)) [
-      | inl t ↦
-          elim (cases_Bool (takes n (at S slot))) [
-            | inl k ↦ let h = simp (t, k) at e in cc
-            | inr k ↦ simp (t, k) (set-get_or S (slot - 1) [])
-          ]
-      | inr g ↦ simp g
-    ]
+add_refused slot n S fault e = grind (arith, common_steps)
 
 pub slot_laws : SlotLaws
 slot_laws = record {
