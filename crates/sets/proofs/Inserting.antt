@@ -1,9 +1,9 @@
 -- A number put into a row: a rotation of the part from its place on, and a write at its place.
-use Rattle.std.proofs.Common.{◌≡◌, ℕ, ◌+◌, ◌-◌, ◌<◌, ◌≤◌, List, [], ◌∷◌, ◌++◌, length, take, drop, set, ℤ, sym, ap, ◌∙◌, arith}
+use Rattle.std.proofs.Common.{◌≡◌, ℕ, ◌+◌, ◌-◌, ◌<◌, List, [], ◌∷◌, ◌++◌, length, take, drop, set, ℤ, ap, ◌∙◌, arith}
 use borrow.Rule.Slice.PartMut.{put_mid, mid_of}
 use Rattle.std.specs.List.{insert}
-use Rattle.std.proofs.lemmas.List.Edits.{length-insert}
-use Rattle.std.proofs.lemmas.List.{length-drop, length-append, drop_all, drop_at, drop-take, set_split, set-append_right, take_all, take_at, take-take, length-take-le, append-nil}
+use Rattle.std.proofs.lemmas.Grind.{common_steps}
+use Rattle.std.proofs.lemmas.List.{length-drop, length-append, drop_all, drop_at, drop-take, set_split, set-append_right, take_all, take-take, length-take-le, append-nil}
 use Rattle.sets.specs.Searches.{Missing}
 use Rattle.sets.specs.Sets.{put}
 
@@ -37,11 +37,4 @@ inserts xs ys p n h e =
 
 -- what a row then holds
 pub inserted_row : (n : ℤ) (cells ys : List ℤ) (count k p : ℕ) → k ≡ count + 1 → count < length cells → Missing n (take count cells) p → ys ≡ insert (take (length (take k cells) - 1) (take k cells)) p n → take (count + 1) (ys ++ drop k cells) ≡ put n (take count cells)
-inserted_row n cells ys count k p ek l h e =
-    let X : List ℤ = take count cells in
-    let lX : length X ≡ count = length-take-le count cells (omega arith) in
-    let lk : length (take k cells) ≡ k = length-take-le k cells (omega arith) in
-    let last : length (take k cells) - 1 ≡ count = omega arith in
-    let a : take (length (take k cells) - 1) (take k cells) ≡ X = rw last (take-take count k cells (omega arith)) in
-    let ly : length ys ≡ count + 1 = ap length e ∙ rw a (length-insert X p n h.within ∙ ap (λ (m : ℕ). m + 1) lX) in
-    take_at ys (drop k cells) (count + 1) ly ∙ (e ∙ rw a (sym h.puts))
+inserted_row n cells ys count k p ek l h e = grind (arith, common_steps, h.puts)

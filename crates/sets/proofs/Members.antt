@@ -1,5 +1,5 @@
 -- The laws of sets.
-use Rattle.std.proofs.Common.{◌≡◌, ℕ, suc, ◌+◌, ◌-◌, true, false, cond, ◌≢◌, ◌↔◌, List, [], ◌∷◌, length, ℤ, ◌≤ℤ◌, Some, None, sym, refl, ◌∙◌, inl, inr, arith}
+use Rattle.std.proofs.Common.{◌≡◌, ◌+◌, ◌-◌, true, false, cond, ◌≢◌, ◌↔◌, List, [], ◌∷◌, length, ℤ, ◌≤ℤ◌, Some, None, sym, refl, ◌∙◌, inl, inr, arith}
 use Rattle.std.specs.Int.Signed.{lt_z}
 use Rattle.std.proofs.lemmas.Bool.{cases_Bool}
 use Rattle.std.proofs.lemmas.Bool.Decides.{nat_tests}

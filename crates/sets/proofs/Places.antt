@@ -3,13 +3,13 @@ use Rattle.std.proofs.Common.{◌≡◌, ℕ, zero, suc, ◌+◌, ◌<◌, ◌�
 use Rattle.std.specs.Int.Signed.{lt_z}
 use Rattle.std.specs.List.Sorted.{IsBinarySearchResult, IsSearchInRange, IsSortedBy}
 use Rattle.std.specs.Ordering.{int_cmp, is_lt}
-use Rattle.std.specs.declared.cmp.Ordering.TheVariants.{Less, Equal, Greater}
+use Rattle.std.specs.declared.cmp.Ordering.TheVariants.{Less, Greater}
 use Rattle.std.proofs.lemmas.Cmp.{int_cmp_total}
 use Rattle.std.proofs.lemmas.Int.{ints}
 use Rattle.std.proofs.lemmas.List.Sorted.{searchable_from_sorted}
 use Rattle.std.proofs.lemmas.Map.Lookups.{exact_signed}
 use Rattle.sets.specs.Searches.{Found, Missing}
-use Rattle.sets.specs.Sets.{rising, has, put, cut}
+use Rattle.sets.specs.Sets.{rising, has}
 use Rattle.sets.proofs.Members.{cut_absent}
 use Rattle.sets.proofs.Ordering.{not_under}
 
@@ -60,5 +60,5 @@ searched n xs (Ok p) r b s = found n xs p r b (exact_signed (get_or xs p (pos 0)
 searched n xs (Err p) r b s =
     let w = s (searchable_from_sorted int_cmp_total (λ y. y) xs n (sorted xs r)) in
     missing n xs p r b
-      (λ k h. less (get_or xs k (pos 0)) n (w.0 k (pos 0) (omega arith) h))
-      (λ h. greater (get_or xs p (pos 0)) n (w.1 p (pos 0) (omega arith) h))
+    (λ k h. less (get_or xs k (pos 0)) n (w.0 k (pos 0) (omega arith) h))
+    (λ h. greater (get_or xs p (pos 0)) n (w.1 p (pos 0) (omega arith) h))

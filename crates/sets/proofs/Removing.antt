@@ -1,9 +1,9 @@
 -- A number taken out of a row: a rotation of the part from its place on.
-use Rattle.std.proofs.Common.{◌≡◌, ℕ, suc, ◌+◌, ◌-◌, ◌<◌, ◌≤◌, List, [], ◌++◌, length, take, drop, ℤ, sym, ap, ◌∙◌, arith}
+use Rattle.std.proofs.Common.{◌≡◌, ℕ, suc, ◌+◌, ◌-◌, ◌<◌, ◌≤◌, List, [], ◌++◌, length, take, drop, ℤ, ap, ◌∙◌, arith}
 use borrow.Rule.Slice.PartMut.{put_mid, mid_of}
 use Rattle.std.specs.List.{remove}
-use Rattle.std.proofs.lemmas.List.Edits.{length-remove}
-use Rattle.std.proofs.lemmas.List.{length-drop, length-take-le, take_all, drop_all, drop-drop, take_at, append-nil, append_assoc}
+use Rattle.std.proofs.lemmas.Grind.{common_steps}
+use Rattle.std.proofs.lemmas.List.{length-drop, take_all, drop_all, drop-drop, append-nil, append_assoc}
 use Rattle.sets.specs.Searches.{Found}
 use Rattle.sets.specs.Sets.{cut}
 
@@ -19,9 +19,4 @@ removes xs ys p h e =
 
 -- what a row then holds
 pub removed_row : (n : ℤ) (cells ys : List ℤ) (count k p : ℕ) → k ≡ count → count ≤ length cells → Found n (take count cells) p → ys ≡ remove (take k cells) p ++ take 1 (drop p (take k cells)) → take (count - 1) (ys ++ drop k cells) ≡ cut n (take count cells)
-removed_row n cells ys count k p ek l h e =
-    let X : List ℤ = take count cells in
-    let lX : length X ≡ count = length-take-le count cells l in
-    let lr : length (remove X p) ≡ count - 1 = omega (arith, length-remove X p h.within) in
-    let f : ys ≡ remove X p ++ take 1 (drop p X) = rw ek at e in
-    rw f (rw append_assoc (take_at (remove X p) (take 1 (drop p X) ++ drop k cells) (count - 1) lr) ∙ sym h.cuts)
+removed_row n cells ys count k p ek l h e = grind (arith, common_steps, h.cuts)

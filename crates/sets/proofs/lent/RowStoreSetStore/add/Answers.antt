@@ -11,4 +11,4 @@ returns-clause-leaves c =
     let i = c.in_ok-rows.field-0 in
     let r = c.index-rows-branch.result in
     let h = seen (λ m. items c.add.new.self ≡ put_in m (items (get_or s.rows.now i r))) c.args.n c.ranges.n c.add.ensures.leaves in
-    changed c.args.slot i c.in_ok-rows.ensures s.rows.now s.full r (put_in c.args.n) c.add.new.self h
+    changed c.args.slot i (put_in c.args.n) s.rows.now c.add.new.self r c.in_ok-rows.ensures s.full h

@@ -5,4 +5,4 @@ use Rattle.sets.proofs.lent.RowStoreSetStore.empty.Goals as goal
 pub returns-clause-leaves : goal.returns-clause-leaves
 returns-clause-leaves c =
     let s = c.args.self.now in
-    changed c.args.slot c.in_ok-rows.field-0 c.in_ok-rows.ensures s.rows.now s.full c.index-rows-branch.result (λ _. []) c.clear.new.self c.clear.ensures
+    changed c.args.slot c.in_ok-rows.field-0 (λ _. []) s.rows.now c.clear.new.self c.index-rows-branch.result c.in_ok-rows.ensures s.full c.clear.ensures

@@ -11,4 +11,4 @@ returns-clause-leaves c =
     let i = c.in_ok-rows.field-0 in
     let r = c.index-rows-branch.result in
     let h = seen (λ m. items c.remove.new.self ≡ cut m (items (get_or s.rows.now i r))) c.args.n c.ranges.n c.remove.ensures in
-    changed c.args.slot i c.in_ok-rows.ensures s.rows.now s.full r (cut c.args.n) c.remove.new.self h
+    changed c.args.slot i (cut c.args.n) s.rows.now c.remove.new.self r c.in_ok-rows.ensures s.full h
