@@ -1,9 +1,9 @@
 -- A number put into a row: a rotation of the part from its place on, and a write at its place.
-use Rattle.std.proofs.Common.{◌≡◌, ℕ, ◌+◌, ◌-◌, ◌<◌, List, [], ◌∷◌, ◌++◌, length, take, drop, set, ℤ, ap, ◌∙◌, arith}
+use Rattle.std.proofs.Common.{◌≡◌, ℕ, ◌+◌, ◌-◌, ◌<◌, List, ◌∷◌, ◌++◌, length, take, drop, set, ℤ, ap, ◌∙◌, arith}
 use borrow.Rule.Slice.PartMut.{put_mid, mid_of}
 use Rattle.std.specs.List.{insert}
 use Rattle.std.proofs.lemmas.Grind.{common_steps}
-use Rattle.std.proofs.lemmas.List.{length-drop, length-append, drop_all, drop_at, drop-take, set_split, set-append_right, take_all, take-take, length-take-le, append-nil}
+use Rattle.std.proofs.lemmas.List.{length-drop, length-append, drop_at, drop-take, set_split, set-append_right, take_all, length-take-le}
 use Rattle.sets.specs.Searches.{Missing}
 use Rattle.sets.specs.Sets.{put}
 
@@ -23,17 +23,11 @@ turned D n h =
 pub inserts : (xs ys : List ℤ) (p : ℕ) (n : ℤ) → p < length xs → ys ≡ drop (length (mid_of p (length xs - p) xs) - 1) (mid_of p (length xs - p) xs) ++ take (length (mid_of p (length xs - p) xs) - 1) (mid_of p (length xs - p) xs) → set (put_mid p (length xs - p) xs ys) p n ≡ insert (take (length xs - 1) xs) p n
 inserts xs ys p n h e =
     let D : List ℤ = drop p xs in
-    let k : ℕ = length xs - p in
-    let lD : length D ≡ k = length-drop p xs in
-    let lT : length (take p xs) ≡ p = length-take-le p xs (omega arith) in
-    let mid : mid_of p k xs ≡ D = take_all k D (omega arith) in
-    let z : drop k D ≡ [] = drop_all k D (omega arith) in
-    let f : ys ≡ drop (length D - 1) D ++ take (length D - 1) D = rw mid at e in
-    let s : set ys 0 n ≡ n ∷ take (length D - 1) D = rw f (turned D n (omega arith)) in
-    let a : take p (take (length xs - 1) xs) ≡ take p xs = take-take p (length xs - 1) xs (omega arith) in
-    let b : drop p (take (length xs - 1) xs) ≡ take (length D - 1) D = drop_take_at p (length D - 1) (length xs - 1) xs (omega arith) in
-    let same : p - p ≡ 0 = omega arith in
-    simp (z, append-nil, a, b, set-append_right (take p xs) ys p p n lT (omega arith), same, s)
+    let m : mid_of p (length xs - p) xs ≡ D = take_all (length xs - p) D (simp length-drop (omega arith)) in
+    let f : ys ≡ drop (length D - 1) D ++ take (length D - 1) D = rw m at e in
+    let s : set ys 0 n ≡ n ∷ take (length D - 1) D = rw f (turned D n (simp length-drop (omega arith))) in
+    let t = set-append_right (take p xs) ys p p n (length-take-le p xs (omega arith)) in
+    grind (arith, common_steps, drop_take_at p (length D - 1) (length xs - 1) xs)
 
 -- what a row then holds
 pub inserted_row : (n : ℤ) (cells ys : List ℤ) (count k p : ℕ) → k ≡ count + 1 → count < length cells → Missing n (take count cells) p → ys ≡ insert (take (length (take k cells) - 1) (take k cells)) p n → take (count + 1) (ys ++ drop k cells) ≡ put n (take count cells)

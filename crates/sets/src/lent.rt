@@ -37,6 +37,7 @@ impl<'a> RowStore<'a> {
     }
 }
 
+// A row is reached by a variable `rows`: an element behind a `&mut` that is a field cannot be lent in place.
 impl<'a> SetStore for RowStore<'a> {
     ghost sets = { λ s. held s.rows.now };
 

@@ -8,9 +8,8 @@
 //! [`lent::RowStore`] is a store over 32 rows that the caller lends: 260 bytes a row, 8,320 bytes in all. Nothing is
 //! allocated, and no row is copied.
 //!
-//! A set is kept in rising order. `member`, `add` and `remove` search by halving: at most 7 comparisons find the place of
-//! a number, and one more tells whether it stands there. `add` and `remove` then move at most 64 numbers. `empty`,
-//! `count`, `least` and `greatest` take constant time.
+//! A set is kept in rising order. `member`, `add` and `remove` search by halving, which takes at most 7 comparisons. `add`
+//! and `remove` then move at most 64 numbers. `empty`, `count`, `least` and `greatest` take constant time.
 #![tactic(auto)]
 
 pub mod faults;
