@@ -8,7 +8,7 @@ use refusals::Fault;
 use sets::faults::SetFault;
 
 /// A fault with the layer that it comes from.
-#[derive(Clone, Copy)]
+#[derive(Clone, Copy, PartialEq, Eq, Debug)]
 pub enum DeviceFault {
     Store(SetFault),
     Port(PortFault),
@@ -30,17 +30,18 @@ impl From<PortFault> for DeviceFault {
     }
 }
 
-impl DeviceFault {
-    /// The number that the fault is known by.
-    pub fn number(self) -> u8
-        ensures { result ≡ device_number self }
-    {
+impl Fault for DeviceFault {
+    ghost number = { device_number };
+
+    fn number(self) -> u8 {
         match self {
             DeviceFault::Store(fault) => fault.number(),
             DeviceFault::Port(fault) => fault.number(),
         }
     }
+}
 
+impl DeviceFault {
     /// The slot of a store's fault, or the number of a port's.
     pub fn carries(self) -> i32
         ensures { result ≡ device_carries self }

@@ -13,15 +13,13 @@ mod tests {
     use super::passing::pass_on;
     use ports::fences::*;
     use ports::lists::ListPort;
+    use refusals::Fault;
     use sets::lent::*;
     use sets::rows::Row;
     use std::test::Fail;
 
-    fn told(r: Result<(), DeviceFault>) -> (u8, i32) {
-        match r {
-            Ok(()) => (0, 0),
-            Err(fault) => (fault.number(), fault.carries()),
-        }
+    fn told(fault: DeviceFault) -> (u8, i32) {
+        (fault.number(), fault.carries())
     }
 
     #[test]
@@ -30,10 +28,19 @@ mod tests {
         let mut store = RowStore::over(&mut rows);
         let mut output = [0; 1];
         let mut list = ListPort::over(&[5, 6, 9], &mut output);
-        assert_eq!(rt; told(pass_on(&mut store, &mut list, 1)), (0, 0));
-        assert_eq!(rt; told(pass_on(&mut store, &mut list, 1)), (49, 6));
-        assert_eq!(rt; told(pass_on(&mut store, &mut list, 40)), (56, 40));
-        assert_eq!(rt; told(pass_on(&mut store, &mut list, 1)), (43, 0));
+        assert_eq!(rt; pass_on(&mut store, &mut list, 1).map_err(told), Ok(()));
+        assert_eq!(rt;
+            pass_on(&mut store, &mut list, 1).map_err(told),
+            Err((49, 6))
+        );
+        assert_eq!(rt;
+            pass_on(&mut store, &mut list, 40).map_err(told),
+            Err((56, 40))
+        );
+        assert_eq!(rt;
+            pass_on(&mut store, &mut list, 1).map_err(told),
+            Err((43, 0))
+        );
     }
 
     #[test]
@@ -44,8 +51,11 @@ mod tests {
         let mut list = ListPort::over(&[5, 11], &mut output);
         let range = Range::over(0, 10)?;
         let mut fence = Fence::over(&mut list, range);
-        assert_eq!(rt; told(pass_on(&mut store, &mut fence, 1)), (0, 0));
-        assert_eq!(rt; told(pass_on(&mut store, &mut fence, 1)), (50, 11));
+        assert_eq!(rt; pass_on(&mut store, &mut fence, 1).map_err(told), Ok(()));
+        assert_eq!(rt;
+            pass_on(&mut store, &mut fence, 1).map_err(told),
+            Err((50, 11))
+        );
         Ok(())
     }
 }
