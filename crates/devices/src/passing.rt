@@ -12,10 +12,10 @@ pub fn pass_on<S: SetStore, P: Port>(
     port: &mut P,
     slot: u8,
 ) -> Result<(), DeviceFault>
-    ensures gives { result ≡ pass_gives slot (P.Port.meaning port.old) (S.SetStore.sets store.old) }
-    ensures sets { S.SetStore.sets store.new ≡ pass_sets slot (P.Port.meaning port.old) (S.SetStore.sets store.old) }
-    ensures leaves { P.Port.meaning port.new ≡ pass_leaves slot (P.Port.meaning port.old) (S.SetStore.sets store.old) }
-    ensures lent { (S.SetStore.lent store.new ≡ S.SetStore.lent store.old) × (P.Port.lent port.new ≡ P.Port.lent port.old) }
+    ensures gives { result ≡ pass_gives slot (P.meaning port.old) (S.sets store.old) }
+    ensures sets { S.sets store.new ≡ pass_sets slot (P.meaning port.old) (S.sets store.old) }
+    ensures leaves { P.meaning port.new ≡ pass_leaves slot (P.meaning port.old) (S.sets store.old) }
+    ensures lent { (S.lent store.new ≡ S.lent store.old) × (P.lent port.new ≡ P.lent port.old) }
 {
     let n = port.read()?;
     store.add(slot, n)?;
