@@ -1,3 +1,4 @@
+pub mod ClassNumbers
 pub mod Classes
 pub mod Completeness
 pub mod Heads

@@ -7,6 +7,8 @@ use Rattle.text.specs.declared.spellings.Sign.{Sign}
 use Rattle.text.specs.declared.spellings.Sign.TheVariants as sign
 use Rattle.text.specs.declared.tokens.Token.TheVariants as token
 use Rattle.text.specs.Tokens.{Lexeme}
+use Rattle.grammar.specs.declared.classing.TokenClass.{TokenClass}
+use Rattle.grammar.specs.declared.classing.TokenClass.TheVariants as class
 
 abbrev pub keyword_class : Keyword → ℕ
 keyword_class keyword.Program = 1
@@ -57,6 +59,14 @@ sign_class sign.Count = 44
 sign_class sign.Equal = 45
 sign_class sign.Less = 46
 sign_class sign.Not = 47
+
+abbrev pub class_number : TokenClass → ℕ
+class_number class.End = 0
+class_number (class.Word k) = keyword_class k
+class_number (class.Sign s) = sign_class s
+class_number class.Name = 51
+class_number class.Number = 52
+class_number class.Large = 53
 
 -- a number that needs a `-` before it has a class of its own
 abbrev pub class_of : Lexeme → ℕ

@@ -1,27 +1,44 @@
 //! Classes of tokens.
 ghost use Rattle.std.specs.Prelude.{◌≡◌};
-ghost use Rattle.grammar.specs.TokenClasses.{keyword_class, sign_class, class_of};
+ghost use Rattle.grammar.specs.TokenClasses.{keyword_class, sign_class, class_number, class_of};
 ghost use Rattle.text.specs.Tokens.{lexeme};
 
 use text::spellings::{Keyword, Sign};
 use text::tokens::Token;
 
-/// The class of names.
-pub const NAME: u8 = 51;
-
-/// The class of numbers that may stand alone.
-pub const NUMBER: u8 = 52;
-
-/// The class of the number that needs a `-` before it.
-pub const LARGE: u8 = 53;
-
 /// The largest number that may stand alone.
 const LARGEST_ALONE: u32 = 2_147_483_647;
 
-/// The class of the end.
-pub const END: u8 = 0;
+/// What a grammar sees of a token.
+#[derive(Clone, Copy, PartialEq, Eq, Debug)]
+pub enum TokenClass {
+    End,
+    Word(Keyword),
+    Sign(Sign),
+    Name,
+    /// A number that may stand alone.
+    Number,
+    /// The number that needs a `-` before it.
+    Large,
+}
 
-/// The class of a keyword.
+impl TokenClass {
+    /// The number of the class in a grammar.
+    pub fn number(self) -> u8
+        ensures { result ≡ class_number self }
+    {
+        match self {
+            TokenClass::End => 0,
+            TokenClass::Word(keyword) => keyword_class(keyword),
+            TokenClass::Sign(sign) => sign_class(sign),
+            TokenClass::Name => 51,
+            TokenClass::Number => 52,
+            TokenClass::Large => 53,
+        }
+    }
+}
+
+/// The number of a keyword's class.
 pub fn keyword_class(keyword: Keyword) -> u8
     ensures { result ≡ keyword_class keyword }
 {
@@ -58,7 +75,7 @@ pub fn keyword_class(keyword: Keyword) -> u8
     }
 }
 
-/// The class of a sign.
+/// The number of a sign's class.
 pub fn sign_class(sign: Sign) -> u8
     ensures { result ≡ sign_class sign }
 {
@@ -84,20 +101,15 @@ pub fn sign_class(sign: Sign) -> u8
 }
 
 /// The class of a token.
-pub fn token_class(token: Token<&[u8]>) -> u8
-    ensures { result ≡ class_of (lexeme token.entry) }
+pub fn token_class(token: Token<&[u8]>) -> TokenClass
+    ensures { class_number result ≡ class_of (lexeme token.entry) }
 {
     match token {
-        Token::Word(keyword) => keyword_class(keyword),
-        Token::Name(_) => NAME,
-        Token::Number(value) => {
-            if value <= LARGEST_ALONE {
-                NUMBER
-            } else {
-                LARGE
-            }
-        }
-        Token::Sign(sign) => sign_class(sign),
-        Token::End => END,
+        Token::Word(keyword) => TokenClass::Word(keyword),
+        Token::Name(_) => TokenClass::Name,
+        Token::Number(value) if value <= LARGEST_ALONE => TokenClass::Number,
+        Token::Number(_) => TokenClass::Large,
+        Token::Sign(sign) => TokenClass::Sign(sign),
+        Token::End => TokenClass::End,
     }
 }

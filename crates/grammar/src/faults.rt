@@ -2,7 +2,7 @@
 use text::tokens::LexFault;
 
 /// What is wrong at a token.
-#[derive(Clone, Copy)]
+#[derive(Clone, Copy, PartialEq, Eq, Debug)]
 pub enum GrammarFault {
     Lexical(LexFault),
     /// It does not fit.

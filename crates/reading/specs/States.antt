@@ -8,6 +8,7 @@ use Rattle.text.specs.Steps.{at}
 use Rattle.text.specs.Tokens.{Lexeme, lexeme, is_end}
 use Rattle.grammar.specs.Parsers.{Read}
 use Rattle.grammar.specs.Streams.{Stream, Refusal}
+use Rattle.grammar.specs.TokenClasses.{class_number}
 use Rattle.syntax.specs.Nodes.{Made, Makes, with_next}
 use Rattle.reading.specs.declared.readers.Reader.{Reader}
 use Rattle.reading.specs.declared.readers.Numbered.{Numbered}
@@ -92,7 +93,7 @@ abbrev pub of_name : Name → ℕ × ℕ
 of_name x = (x.length, x.place)
 
 abbrev pub of_mark : Mark → ℕ × ℕ
-of_mark x = (x.class, x.place)
+of_mark x = (class_number x.class, x.place)
 
 abbrev pub of_place : ℕ → ℕ × ℕ
 of_place p = (0, p)

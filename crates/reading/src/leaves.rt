@@ -2,20 +2,21 @@
 ghost use Rattle.std.specs.Prelude.{◌≡◌, ℕ, ◌≤◌, pos};
 ghost use Rattle.grammar.specs.Grammars.{seq, tok};
 ghost use Rattle.grammar.specs.Parsers.{parse_at};
+ghost use Rattle.grammar.specs.TokenClasses.{class_number};
 ghost use Rattle.text.specs.Tokens.{lexeme};
 ghost use Rattle.syntax.specs.Nodes.{magnitude, minus, number_made, inner_made};
 ghost use Rattle.syntax.specs.Syntax.{rule, number};
 ghost use Rattle.reading.specs.States.{stream_of, Builds, shown, of_node};
 ghost use Rattle.reading.specs.Steps.{taken, jointly, blamed, variable_made, bare_made, of_variable_made, positive_made, negative_made};
 
-use crate::classes::MINUS;
 use crate::nodes::{over, titled, valued};
 use crate::readers::{Numbered, Reader};
-use grammar::classing::{LARGE, NUMBER};
+use grammar::classing::TokenClass;
 use grammar::faults::GrammarFault;
 use table::kinds::Kind;
 use table::nodes::Node;
 use text::places::Placed;
+use text::spellings::Sign;
 use text::tokens::{LexFault, Token};
 
 /// The magnitude of a number.
@@ -42,8 +43,8 @@ fn blamed(fault: Placed<GrammarFault>, place: u16) -> Placed<GrammarFault>
 {
     match fault.item {
         GrammarFault::Lexical(LexFault::NumberTooLarge) => Placed {
-            item: fault.item,
-            place: place as usize,
+            place: usize::from(place),
+            ..fault
         },
         _ => fault,
     }
@@ -59,16 +60,20 @@ impl<'s, 't> Reader<'s, 't> {
     }
 
     /// A token, read as a node.
-    pub fn bare(&mut self, class: u8, kind: Kind) -> Result<Numbered, Placed<GrammarFault>>
-        ensures { Builds (bare_made class kind) (taken class (stream_of self.old)) self.old (shown of_node result) self.new }
+    pub fn bare(&mut self, class: TokenClass, kind: Kind) -> Result<Numbered, Placed<GrammarFault>>
+        ensures { Builds (bare_made (class_number class) kind) (taken (class_number class) (stream_of self.old)) self.old (shown of_node result) self.new }
     {
         let place = self.take(class)?;
         Ok(self.record(Node::bare(kind, place)))
     }
 
     /// A token and a variable: a node over the variable, at the token.
-    pub fn of_variable(&mut self, class: u8, kind: Kind) -> Result<Numbered, Placed<GrammarFault>>
-        ensures { (d : ℕ) → Builds (of_variable_made d class kind) (parse_at rule d (seq (tok class) (tok 51)) (stream_of self.old)) self.old (shown of_node result) self.new }
+    pub fn of_variable(
+        &mut self,
+        class: TokenClass,
+        kind: Kind,
+    ) -> Result<Numbered, Placed<GrammarFault>>
+        ensures { (d : ℕ) → Builds (of_variable_made d (class_number class) kind) (parse_at rule d (seq (tok (class_number class)) (tok 51)) (stream_of self.old)) self.old (shown of_node result) self.new }
     {
         let place = self.take(class)?;
         let variable = self.variable()?;
@@ -80,7 +85,7 @@ impl<'s, 't> Reader<'s, 't> {
         ensures { Builds positive_made (taken 52 (stream_of self.old)) self.old (shown of_node result) self.new }
     {
         let magnitude = magnitude(self.token);
-        let place = self.take(NUMBER)?;
+        let place = self.take(TokenClass::Number)?;
         Ok(self.record(valued(place, magnitude as i32)))
     }
 
@@ -89,12 +94,12 @@ impl<'s, 't> Reader<'s, 't> {
         ensures { Builds negative_made (jointly (stream_of self.old)) self.old (shown of_node result) self.new }
     {
         let ahead = self.place;
-        let place = match self.take(MINUS) {
+        let place = match self.take(TokenClass::Sign(Sign::Minus)) {
             Ok(place) => place,
             Err(fault) => return Err(blamed(fault, ahead)),
         };
         let magnitude = magnitude(self.token);
-        self.one_of(&[NUMBER, LARGE])?;
+        self.one_of(&[TokenClass::Number, TokenClass::Large])?;
         Ok(self.record(valued(place, below(magnitude))))
     }
 
@@ -102,7 +107,7 @@ impl<'s, 't> Reader<'s, 't> {
     pub fn number(&mut self) -> Result<Numbered, Placed<GrammarFault>>
         ensures { (d : ℕ) → Builds (number_made (inner_made d)) (parse_at rule d number (stream_of self.old)) self.old (shown of_node result) self.new }
     {
-        if self.class() == NUMBER {
+        if self.class() == TokenClass::Number {
             self.positive()
         } else {
             self.negative()

@@ -5,7 +5,6 @@
 //! is the one that the grammar's reader gives.
 #![tactic(auto)]
 
-pub mod classes;
 pub mod leaves;
 pub mod nodes;
 pub mod readers;

@@ -3,6 +3,7 @@ ghost use Rattle.std.specs.Prelude.{◌≡◌, ◌<◌, ◌≤◌, false, length
 ghost use Rattle.text.specs.Tokens.{is_end, lexeme};
 ghost use Rattle.reading.specs.Sizes.{Fits};
 
+use grammar::classing::TokenClass;
 use table::nodes::Node;
 use text::lexing::Lexer;
 use text::tokens::Token;
@@ -25,22 +26,22 @@ pub struct Reader<'s, 't> {
 }
 
 /// A node that was written.
-#[derive(Clone, Copy)]
+#[derive(Clone, Copy, PartialEq, Eq, Debug)]
 pub struct Numbered {
     pub number: u16,
     pub place: u16,
 }
 
 /// A name, as a record has it.
-#[derive(Clone, Copy)]
+#[derive(Clone, Copy, PartialEq, Eq, Debug)]
 pub struct Name {
     pub length: u8,
     pub place: u16,
 }
 
 /// A token of one of several classes.
-#[derive(Clone, Copy)]
+#[derive(Clone, Copy, PartialEq, Eq, Debug)]
 pub struct Mark {
-    pub class: u8,
+    pub class: TokenClass,
     pub place: u16,
 }

@@ -1,13 +1,13 @@
 //! One token on, and one record more.
-ghost use Rattle.std.specs.Prelude.{◌≡◌, ◌<◌, false, OnOk, slice_set};
+ghost use Rattle.std.specs.Prelude.{◌≡◌, ◌<◌, false, OnOk, map, slice_set};
 ghost use Rattle.grammar.specs.Parsers.{two};
+ghost use Rattle.grammar.specs.TokenClasses.{class_number};
 ghost use Rattle.text.specs.Tokens.{is_end, lexeme};
 ghost use Rattle.reading.specs.States.{stream_of, Lends, Written, linked_at, Recorded, Chained, Takes, shown, of_place, of_name, of_mark, of_node};
 ghost use Rattle.reading.specs.Steps.{advanced, tail_of, front_of, misfit_of, taken, opened, any_taken, token_made, name_made, mark_made};
 
-use crate::classes::among;
 use crate::readers::{Mark, Name, Numbered, Reader};
-use grammar::classing::{LARGE, NAME, token_class};
+use grammar::classing::{TokenClass, token_class};
 use grammar::faults::GrammarFault;
 use table::nodes::Node;
 use text::places::Placed;
@@ -17,10 +17,7 @@ use text::tokens::{LexFault, Token};
 fn is_end(token: Token<&[u8]>) -> bool
     ensures { result ≡ is_end (lexeme token.entry) }
 {
-    match token {
-        Token::End => true,
-        _ => false,
-    }
+    matches!(token, Token::End)
 }
 
 impl<'s, 't> Reader<'s, 't> {
@@ -46,15 +43,15 @@ impl<'s, 't> Reader<'s, 't> {
     }
 
     /// The class of the token ahead.
-    pub fn class(&self) -> u8
-        ensures { result ≡ front_of (stream_of self.now) }
+    pub fn class(&self) -> TokenClass
+        ensures { class_number result ≡ front_of (stream_of self.now) }
     {
         token_class(self.token)
     }
 
     /// Whether the tokens ahead are of two classes.
-    pub fn followed(&self, first: u8, second: u8) -> bool
-        ensures { result ≡ two first second (stream_of self.now).tokens }
+    pub fn followed(&self, first: TokenClass, second: TokenClass) -> bool
+        ensures { result ≡ two (class_number first) (class_number second) (stream_of self.now).tokens }
     {
         if is_end(self.token) || self.class() != first {
             return false;
@@ -70,20 +67,20 @@ impl<'s, 't> Reader<'s, 't> {
     pub fn misfit(&self) -> Placed<GrammarFault>
         ensures { result ≡ misfit_of (stream_of self.now) }
     {
-        let item = if self.class() == LARGE {
+        let item = if self.class() == TokenClass::Large {
             GrammarFault::Lexical(LexFault::NumberTooLarge)
         } else {
             GrammarFault::Misfit
         };
         Placed {
             item,
-            place: self.place as usize,
+            place: usize::from(self.place),
         }
     }
 
     /// Takes a token of a class, and tells its place. The end is not taken.
-    pub fn take(&mut self, class: u8) -> Result<u16, Placed<GrammarFault>>
-        ensures { Takes (token_made class) (taken class (stream_of self.old)) self.old (shown of_place result) self.new }
+    pub fn take(&mut self, class: TokenClass) -> Result<u16, Placed<GrammarFault>>
+        ensures { Takes (token_made (class_number class)) (taken (class_number class) (stream_of self.old)) self.old (shown of_place result) self.new }
     {
         if is_end(self.token) || self.class() != class {
             return Err(self.misfit());
@@ -94,19 +91,19 @@ impl<'s, 't> Reader<'s, 't> {
     }
 
     /// Takes a token that opens a construct, if any more may be open.
-    pub fn open(&mut self, class: u8, allowed: u8) -> Result<u16, Placed<GrammarFault>>
-        ensures takes { Takes (token_made class) (opened allowed class (stream_of self.old)) self.old (shown of_place result) self.new }
+    pub fn open(&mut self, class: TokenClass, allowed: u8) -> Result<u16, Placed<GrammarFault>>
+        ensures takes { Takes (token_made (class_number class)) (opened allowed (class_number class) (stream_of self.old)) self.old (shown of_place result) self.new }
         ensures allows { OnOk result (0 < allowed) }
     {
         if allowed > 0 {
             return self.take(class);
         }
-        if self.class() != class || is_end(self.token) {
+        if is_end(self.token) || self.class() != class {
             return Err(self.misfit());
         }
         Err(Placed {
             item: GrammarFault::TooDeep,
-            place: self.place as usize,
+            place: usize::from(self.place),
         })
     }
 
@@ -118,16 +115,16 @@ impl<'s, 't> Reader<'s, 't> {
             Token::Name(bytes) => bytes.len() as u8,
             _ => 0,
         };
-        let place = self.take(NAME)?;
+        let place = self.take(TokenClass::Name)?;
         Ok(Name { length, place })
     }
 
     /// Takes a token of one of several classes.
-    pub fn one_of(&mut self, classes: &[u8]) -> Result<Mark, Placed<GrammarFault>>
-        ensures { Takes mark_made (any_taken classes.now (stream_of self.old)) self.old (shown of_mark result) self.new }
+    pub fn one_of(&mut self, classes: &[TokenClass]) -> Result<Mark, Placed<GrammarFault>>
+        ensures { Takes mark_made (any_taken (map class_number classes.now) (stream_of self.old)) self.old (shown of_mark result) self.new }
     {
         let class = self.class();
-        if !among(classes, class) {
+        if !classes.contains(&class) {
             return Err(self.misfit());
         }
         let place = self.take(class)?;
@@ -145,7 +142,7 @@ impl<'s, 't> Reader<'s, 't> {
     fn put(&mut self, at: u16, node: Node)
         ensures { Written self.old self.new (slice_set self.old.table.now at node) }
     {
-        let at = at as usize;
+        let at = usize::from(at);
         if at < self.table.len() {
             self.table[at] = node;
         }
@@ -169,7 +166,7 @@ impl<'s, 't> Reader<'s, 't> {
     pub(crate) fn link(&mut self, last: u16, next: u16)
         ensures { Written self.old self.new (linked_at last next self.old.table.now) }
     {
-        let at = last as usize;
+        let at = usize::from(last);
         if at < self.table.len() {
             self.table[at].next = next;
         }
