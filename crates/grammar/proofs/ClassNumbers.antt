@@ -1,5 +1,6 @@
 -- Each class has a number of its own, so that comparing classes is comparing their numbers.
-use Rattle.std.proofs.Common.{◌≡◌, ℕ, eqb, List, [], ◌∷◌, get_or, map, sym, refl, ap, ◌∙◌, rules}
+use Rattle.std.proofs.Common.{◌≡◌, ℕ, Bool, true, false, not, eqb, List, [], ◌∷◌, get_or, map, sym, refl, ap, ◌∙◌, rules}
+use Rattle.std.proofs.lemmas.Bool.{both_ways, not-true, not-false}
 use Rattle.std.proofs.lemmas.Bool.Decides.{Decides-eqb, Decides-like, same_from_decides}
 use Rattle.std.specs.Bool.{Decides}
 use Rattle.std.specs.List.{list_any}
@@ -85,13 +86,26 @@ class_one a b e = sym (class_back a) ∙ ap class_at e ∙ class_back b
 pub same_class : (a b : TokenClass) → Decides (ghosts.eq a b) (a ≡ b)
 same_class a b = search rules
 
-same_number : (a b : TokenClass) → ghosts.eq b a ≡ eqb (class_number a) (class_number b)
-same_number a b =
-    same_from_decides _ _
-    (Decides-like _ (λ e. sym e) (λ e. sym e) (same_class b a))
-    (Decides-like _ (class_one a b) (ap class_number) (Decides-eqb (class_number a) (class_number b)))
+pub same_number : (a b : TokenClass) → ghosts.eq a b ≡ eqb (class_number a) (class_number b)
+same_number a b = same_from_decides _ _ (same_class a b) (Decides-like _ (class_one a b) (ap class_number) (Decides-eqb (class_number a) (class_number b)))
+
+-- what the code's `==` and `!=` say of numbers
+pub class_is : (a b : TokenClass) {r : Bool} → r ≡ ghosts.eq a b → r ≡ true → class_number a ≡ class_number b
+class_is a b e h = ap class_number ((same_class a b).0 (sym e ∙ h))
+
+pub class_is_not : (a b : TokenClass) {r : Bool} → r ≡ ghosts.eq a b → r ≡ false → class_number a ≡ class_number b → ⊥
+class_is_not a b e h n = both_ways _ (sym e ∙ h) ((same_class a b).1 (class_one a b n))
+
+pub class_differs : (a b : TokenClass) {r : Bool} → r ≡ not (ghosts.eq a b) → r ≡ true → class_number a ≡ class_number b → ⊥
+class_differs a b e h = class_is_not a b refl (not-true (ghosts.eq a b) (sym e ∙ h))
+
+pub class_same : (a b : TokenClass) {r : Bool} → r ≡ not (ghosts.eq a b) → r ≡ false → class_number a ≡ class_number b
+class_same a b e h = class_is a b refl (not-false (ghosts.eq a b) (sym e ∙ h))
+
+turned : (m n : ℕ) → eqb m n ≡ eqb n m
+turned m n = same_from_decides _ _ (Decides-eqb m n) (Decides-like _ (λ e. sym e) (λ e. sym e) (Decides-eqb n m))
 
 -- `contains` of the code tells whether a class is among several
 pub among_classes : (cs : List TokenClass) (c : TokenClass) → list_any (λ x. ghosts.eq x c) cs ≡ among (map class_number cs) (class_number c)
 among_classes [] c = refl
-among_classes (x ∷ cs) c = rw (same_number c x, among_classes cs c)
+among_classes (x ∷ cs) c = rw (same_number x c, turned (class_number x) (class_number c), among_classes cs c)

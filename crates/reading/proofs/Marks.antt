@@ -1,5 +1,6 @@
 -- A token of one of several classes.
 use Rattle.std.proofs.Common.{◌≡◌, ℕ, Bool, true, false, cond, ◌||◌, eqb, List, [], ◌∷◌, Ok, Err, Result, sym, refl, ap, ◌∙◌, inl, inr}
+use Rattle.std.proofs.lemmas.Bool.{both_ways, eq-eqb, eqb-true}
 use Rattle.table.specs.declared.nodes.Node.{Node}
 use Rattle.text.specs.declared.places.Placed.{Placed}
 use Rattle.text.specs.Tokens.{Lexeme, Verdict}
@@ -10,9 +11,9 @@ use Rattle.grammar.specs.TokenClasses.{class_of, is_class, among}
 use Rattle.syntax.specs.Nodes.{Makes, chosen}
 use Rattle.syntax.specs.Syntax.{G, rule, any_of}
 use Rattle.reading.specs.declared.readers.Reader.{Reader}
-use Rattle.reading.specs.States.{State, stream_of, state_of, Answer, written, Reads, Takes}
-use Rattle.reading.specs.Steps.{front_of, taken, any_taken, mark_made}
-use Rattle.reading.proofs.Sequences.{Silent, Left, Past, past, stop}
+use Rattle.reading.specs.States.{State, stream_of, state_of, Answer, applied, written, Reads, Takes}
+use Rattle.reading.specs.Steps.{front_of, misfit_of, taken, any_taken, token_made, mark_made}
+use Rattle.reading.proofs.Sequences.{Silent, Left, Past, past, stop, got, refused, refuse_as}
 
 -- the class and the place of the token that was chosen
 abbrev pub chosen_made : (d c : ℕ) (cs : List ℕ) → Makes (TreeAt rule d (any_of c cs))
@@ -122,3 +123,41 @@ past_mark {d = d} c cs s r = past s (silent_chosen d c cs) (take_mark d c cs r)
 
 pub stop_mark : {Y : Type 0} {out : Makes Y} {R : Read Y} {a m b : Reader} {d : ℕ} {h : G} {ms : List Node} {k : ℕ} {e : Refusal} (c : ℕ) (cs : List ℕ) {f : TreeAt rule d (seq (any_of c cs) h) → Y} → Left R a m d (seq (any_of c cs) h) f ms k → Takes mark_made (any_taken (c ∷ cs) (stream_of m)) m (Err e) b → Reads out R a (Err e) b
 stop_mark {d = d} c cs s r = stop s (take_mark d c cs r).reads
+
+-- ---- a token of one of several, as the code takes it
+
+-- none of them stands there
+pub not_any : (cs : List ℕ) (a : Reader) {f : Refusal} → f ≡ misfit_of (stream_of a) → among cs (front_of (stream_of a)) ≡ false → Takes mark_made (any_taken cs (stream_of a)) a (Err f) a
+not_any cs a m n =
+    let read = go (stream_of a).tokens (stream_of a).verdict n ∙ ap Err (sym m) in
+    record { reads = record { lends = refl; goes = tt; reads = sym (ap (written mark_made (state_of a)) read) }; steps = tt }
+  where
+    go : (ts : List (Placed Lexeme)) (v : Verdict) → among cs (front_of (record { tokens = ts; verdict = v })) ≡ false → any_taken cs (record { tokens = ts; verdict = v }) ≡ Err (misfit ts v)
+    go [] v n = refl
+    go (t ∷ ts) v n = ap (λ b. cond b (passed t (from ts v)) (Err (misfit (t ∷ ts) v))) n
+
+any_by : (cs : List ℕ) (c : ℕ) (t : Placed Lexeme) (ts : List (Placed Lexeme)) (v : Verdict) (b : Bool) (e : is_class c t ≡ b) → b ≡ true → among cs (class_of t.item) ≡ true → any_taken cs (record { tokens = t ∷ ts; verdict = v }) ≡ bared c (take_by c t ts v b e)
+unfolding bared
+any_by cs c t ts v true e h among_them = ap (λ b. cond b (passed t (from ts v)) (Err (misfit (t ∷ ts) v))) among_them ∙ passed_of c (t, e) (from ts v)
+any_by cs c t ts v false e h among_them = absurd (both_ways false refl h)
+
+-- the class that stands there is one of them
+any_of_class : (cs : List ℕ) (c : ℕ) (ts : List (Placed Lexeme)) (v : Verdict) → front_of (record { tokens = ts; verdict = v }) ≡ c → among cs c ≡ true → any_taken cs (record { tokens = ts; verdict = v }) ≡ bared c (taken c (record { tokens = ts; verdict = v }))
+unfolding bared
+any_of_class cs c [] v f h = refl
+any_of_class cs c (t ∷ ts) v f h = any_by cs c t ts v (is_class c t) refl (eq-eqb (class_of t.item) c f) (ap (among cs) f ∙ h)
+
+pub any_refused : (cs : List ℕ) (c : ℕ) {a b : Reader} {f : Refusal} → front_of (stream_of a) ≡ c → among cs c ≡ true → Takes (token_made c) (taken c (stream_of a)) a (Err f) b → Reads mark_made (any_taken cs (stream_of a)) a (Err f) b
+unfolding bared
+any_refused cs c {a} f h t = refuse_as t.reads (any_of_class cs c _ _ f h ∙ ap (bared c) (refused t.reads))
+
+pub any_took : (cs : List ℕ) (c : ℕ) {a b : Reader} {i p : ℕ} → front_of (stream_of a) ≡ c → among cs c ≡ true → Takes (token_made c) (taken c (stream_of a)) a (Ok (i, p)) b → Takes mark_made (any_taken cs (stream_of a)) a (Ok (c, p)) b
+unfolding bared
+any_took cs c {a} {b} {p = p} f h t =
+    let g = got t.reads in
+    let read = any_of_class cs c _ _ f h ∙ ap (bared c) g.read in
+    let class = eqb-true (class_of g.tree.0.item) c g.tree.1 in
+    record {
+      reads = record { lends = t.reads.lends; goes = t.reads.goes; reads = ap (λ s. Ok (c, p, s)) g.state ∙ ap (λ q. Ok (c, q, applied [] (stream_of b) (state_of a))) g.place ∙ ap (λ k. Ok (k, g.tree.0.place, applied [] (stream_of b) (state_of a))) (sym class) ∙ sym (ap (written mark_made (state_of a)) read) };
+      steps = t.steps;
+    }

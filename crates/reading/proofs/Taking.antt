@@ -1,18 +1,19 @@
 -- A token taken from the stream of a reader.
-use Rattle.std.proofs.Common.{◌≡◌, ℕ, ◌+◌, ◌<◌, Bool, true, false, cond, ◌&&◌, eqb, List, [], ◌∷◌, Ok, Err, sym, refl, ap, ◌∙◌, arith}
+use Rattle.std.proofs.Common.{◌≡◌, ℕ, zero, suc, ◌+◌, ◌<◌, ◌≤◌, Bool, true, false, cond, ◌&&◌, eqb, List, [], ◌∷◌, Ok, Err, sym, refl, ap, ◌∙◌, arith}
 use Rattle.std.proofs.lemmas.Bool.{eq-eqb, ne_eqb, both_ways}
 use Rattle.text.specs.declared.places.Placed.{Placed}
 use Rattle.text.specs.declared.tokens.Token.TheVariants as token
 use Rattle.text.specs.Lexings.{Lexing}
 use Rattle.text.specs.Steps.{at}
 use Rattle.text.specs.Tokens.{Lexeme, lexeme, is_end, Verdict}
+use Rattle.grammar.specs.declared.faults.GrammarFault.TheVariants.{TooDeep}
 use Rattle.grammar.specs.Parsers.{passed, take_by, two, misfit}
 use Rattle.grammar.specs.Streams.{Stream, Refusal, from}
 use Rattle.grammar.specs.TokenClasses.{class_of, is_class}
 use Rattle.grammar.proofs.Inversions.{never_ok, passed_on}
 use Rattle.reading.specs.declared.readers.Reader.{Reader}
 use Rattle.reading.specs.States.{stream_by, stream_of, state_of, Lends, applied, written, Reads, Takes}
-use Rattle.reading.specs.Steps.{tail_of, front_of, misfit_of, taken, token_made, name_made}
+use Rattle.reading.specs.Steps.{tail_of, front_of, misfit_of, taken, opened, token_made, name_made}
 use Rattle.reading.proofs.Sequences.{refused}
 
 -- the class of the token ahead is that of the stream
@@ -78,6 +79,46 @@ took c a b h e l w on s =
       steps = (w.1, on);
     }
 
+-- the token ahead was not taken, since it is none or of another class
+pub not_taken : (c : ℕ) (a : Reader) {f : Refusal} → f ≡ misfit_of (stream_of a) → (is_end (lexeme a.token) ≡ false → front_of (stream_of a) ≡ c → ⊥) → Takes (token_made c) (taken c (stream_of a)) a (Err f) a
+not_taken c a m n =
+    let read = taken_not (lexeme a.token) a.place _ c (λ h e. n h (front a ∙ e)) ∙ ap Err (sym m) in
+    record { reads = record { lends = refl; goes = tt; reads = sym (ap (written (token_made c) (state_of a)) read) }; steps = tt }
+
+-- the token ahead is of the class, and a fault comes after it
+pub took_not : (c : ℕ) (a b : Reader) {f : Refusal} → is_end (lexeme a.token) ≡ false → front_of (stream_of a) ≡ c → Lends a b → Err f ≡ tail_of (stream_of a) → Reads (token_made c) (taken c (stream_of a)) a (Err f) b
+took_not c a b h e l s =
+    let k = taken_here (lexeme a.token) a.place _ c h (sym (front a) ∙ e) in
+    let read = k.taken_as ∙ ap (passed (at (lexeme a.token) a.place, k.class)) (sym s) in
+    record { lends = l; goes = tt; reads = sym (ap (written (token_made c) (state_of a)) read) }
+
+-- ---- where no more constructs may be open
+
+closed_not : (t : Lexeme) (p : ℕ) (l : Lexing) (c : ℕ) → (is_end t ≡ false → class_of t ≡ c → ⊥) → opened 0 c (stream_by t p l) ≡ Err (misfit_of (stream_by t p l))
+closed_not t p l c n = go (is_end t) refl
+  where
+    go : (b : Bool) → is_end t ≡ b → opened 0 c (cond b (record { tokens = []; verdict = Ok p }) (record { tokens = at t p ∷ l.tokens; verdict = l.verdict })) ≡ Err (misfit_of (cond b (record { tokens = []; verdict = Ok p }) (record { tokens = at t p ∷ l.tokens; verdict = l.verdict })))
+    go true e = refl
+    go false e =
+        let differs = ne_eqb (class_of t) c (n e) in
+        ap (λ b. cond b (Err (at TooDeep p)) (taken c (record { tokens = at t p ∷ l.tokens; verdict = l.verdict }))) differs
+        ∙ refused_by c (at t p) l.tokens l.verdict (is_class c (at t p)) refl differs
+
+closed_here : (t : Lexeme) (p : ℕ) (l : Lexing) (c : ℕ) → is_end t ≡ false → class_of t ≡ c → opened 0 c (stream_by t p l) ≡ Err (at TooDeep p)
+closed_here t p l c h e =
+    ap (opened 0 c) (streamed t p l h)
+    ∙ ap (λ b. cond b (Err (at TooDeep p)) (taken c (record { tokens = at t p ∷ l.tokens; verdict = l.verdict }))) (eq-eqb (class_of t) c e)
+
+shut : (d c : ℕ) (a : Reader) {f : Refusal} → d ≤ 0 → opened 0 c (stream_of a) ≡ Err f → Takes (token_made c) (opened d c (stream_of a)) a (Err f) a
+shut zero c a h read = record { reads = record { lends = refl; goes = tt; reads = sym (ap (written (token_made c) (state_of a)) read) }; steps = tt }
+shut (suc d) c a h read = absurd (omega arith)
+
+pub shut_misfit : (d c : ℕ) (a : Reader) {f : Refusal} → d ≤ 0 → f ≡ misfit_of (stream_of a) → (is_end (lexeme a.token) ≡ false → front_of (stream_of a) ≡ c → ⊥) → Takes (token_made c) (opened d c (stream_of a)) a (Err f) a
+shut_misfit d c a h m n = shut d c a h (closed_not (lexeme a.token) a.place _ c (λ i e. n i (front a ∙ e)) ∙ ap Err (sym m))
+
+pub shut_deep : (d c : ℕ) (a : Reader) {p : ℕ} → d ≤ 0 → p ≡ a.place → is_end (lexeme a.token) ≡ false → front_of (stream_of a) ≡ c → Takes (token_made c) (opened d c (stream_of a)) a (Err (at TooDeep p)) a
+shut_deep d c a h e i k = shut d c a h (closed_here (lexeme a.token) a.place _ c i (sym (front a) ∙ k) ∙ ap (λ q. Err (at TooDeep q)) (sym e))
+
 -- ---- two tokens ahead
 
 headed : ℕ → List (Placed Lexeme) → Bool
@@ -119,6 +160,18 @@ two_err c e t p l f h k next =
     let s = streamed t p l h in
     let tail = next ∙ ap tail_of s in
     ap (λ (x : Stream). two c e x.tokens) s ∙ two_by c e (at t p) l.tokens l.verdict (eq-eqb (class_of t) c k) ∙ ap (headed e) (tail_none l.tokens l.verdict _ tail)
+
+-- the token ahead is none or of another class
+pub two_not : (c e : ℕ) (t : Lexeme) (p : ℕ) (l : Lexing) → (is_end t ≡ false → class_of t ≡ c → ⊥) → two c e (stream_by t p l).tokens ≡ false
+two_not c e t p l n = go (is_end t) refl
+  where
+    by : (ts : List (Placed Lexeme)) → is_class c (at t p) ≡ false → two c e (at t p ∷ ts) ≡ false
+    by [] h = refl
+    by (u ∷ us) h = ap (λ b. b && is_class e u) h
+
+    go : (b : Bool) → is_end t ≡ b → two c e (cond {A = Stream} b (record { tokens = []; verdict = Ok p }) (record { tokens = at t p ∷ l.tokens; verdict = l.verdict })).tokens ≡ false
+    go true k = refl
+    go false k = by l.tokens (ne_eqb (class_of t) c (n k))
 
 pub name_refused : (a b : Reader) (f : Refusal) → Takes (token_made 51) (taken 51 (stream_of a)) a (Err f) b → Reads name_made (taken 51 (stream_of a)) a (Err f) b
 name_refused a b f t = record { lends = t.reads.lends; goes = tt; reads = sym (ap (written name_made (state_of a)) (refused t.reads)) }

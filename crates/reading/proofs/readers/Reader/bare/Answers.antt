@@ -1,4 +1,5 @@
 use Rattle.std.proofs.Common.{refl, ap, ◌∙◌}
+use Rattle.grammar.specs.TokenClasses.{class_number}
 use Rattle.table.specs.Records.{bare}
 use Rattle.reading.specs.States.{of_node}
 use Rattle.reading.proofs.Sequences.{exit_node, refused_as, single, silent_token, node}
@@ -9,5 +10,5 @@ returns-in_err-place c = exit_node of_node _ c.from_residual.ensures.1 (refused_
 
 pub returns : goal.returns
 returns c =
-    let s = single (silent_token c.args.class) c.in_ok-place.ensures in
+    let s = single (silent_token (class_number c.args.class)) c.in_ok-place.ensures in
     node s.whole c.record.ensures (c.bare.ensures ∙ ap (bare c.args.kind) s.place) refl
