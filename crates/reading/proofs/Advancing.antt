@@ -1,6 +1,7 @@
 -- The stream after one token.
-use Rattle.std.proofs.Common.{◌≡◌, ℕ, suc, ◌<◌, ◌≤◌, Bool, true, false, cond, List, [], ◌∷◌, ◌++◌, length, drop, Ok, Err, sym, refl, ap, ◌∙◌, arith}
+use Rattle.std.proofs.Common.{◌≡◌, ℕ, suc, ◌<◌, ◌≤◌, Bool, true, false, cond, List, [], ◌∷◌, ◌++◌, length, drop, IsErrAnd, Ok, Err, Result, sym, refl, ap, ◌∙◌, arith}
 use Rattle.std.proofs.lemmas.List.{length-drop, length-append}
+use Rattle.std.proofs.lemmas.Result.{err_from_is_err_and}
 use Rattle.text.specs.declared.places.Placed.{Placed}
 use Rattle.text.specs.declared.tokens.LexFault.{LexFault}
 use Rattle.text.specs.Laws.{Next, Stepped}
@@ -10,9 +11,9 @@ use Rattle.text.specs.Tokens.{Lexeme, is_end}
 use Rattle.text.proofs.Counting.{lexed_step}
 use Rattle.text.proofs.Longest.{shaped_some}
 use Rattle.grammar.specs.declared.faults.GrammarFault.TheVariants.{Lexical}
-use Rattle.grammar.specs.Streams.{from}
+use Rattle.grammar.specs.Streams.{Stream, Refusal, from}
 use Rattle.reading.specs.States.{stream_by}
-use Rattle.reading.specs.Steps.{tail_of}
+use Rattle.reading.specs.Steps.{advanced, tail_of}
 
 abbrev lexed_at : List ℕ → ℕ → Lexing
 lexed_at text i = lexed_from (suc (length text)) text i
@@ -38,6 +39,13 @@ pub advance_err : (text : List ℕ) (i j p : ℕ) (t : Lexeme) (f : Placed LexFa
 advance_err text i j p t f h e s =
     sym (tail_is t p (lexed_at text i) e
     ∙ ap (λ (l : Lexing). from l.tokens l.verdict) (lexed_step text i h ∙ ap (λ a. onward a (lexed_at text (step text i).after)) (sym s.answer)))
+
+-- the fault of the lexer, as the refusal that it is
+pub refused_as_is : (r : Refusal) (f : Placed LexFault) → r.item ≡ Lexical f.item → r.place ≡ f.place → r ≡ at (Lexical f.item) f.place
+refused_as_is r f item place = λ i. record { item = item i; place = place i }
+
+pub stopped : (r : Result (Unit {0}) Refusal) (s : Stream) {f : Refusal} → IsErrAnd r (λ y. y ≡ f) → advanced r s ≡ Err f
+stopped r s h = let p = err_from_is_err_and r h in ap (λ x. advanced x s) (p.1 ∙ ap Err p.2)
 
 -- where the next token stands
 pub next_place : (text : List ℕ) (i j : ℕ) (n : Placed Lexeme) → i ≤ length text → Next i (drop i text) (Ok n) j → (i ≤ n.place) × (n.place ≤ j) × (j ≤ length text) × (is_end n.item ≡ false → n.place < j)

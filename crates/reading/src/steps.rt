@@ -29,17 +29,13 @@ impl<'s, 't> Reader<'s, 't> {
         ensures onward { OnOk result (self.old.place < self.new.place) }
         ensures stream { advanced result (stream_of self.new) ≡ tail_of (stream_of self.old) }
     {
-        match self.lexer.next_token() {
-            Ok(next) => {
-                self.token = next.item;
-                self.place = next.place as u16;
-                Ok(())
-            }
-            Err(fault) => Err(Placed {
-                item: GrammarFault::Lexical(fault.item),
-                place: fault.place,
-            }),
-        }
+        let next = self
+            .lexer
+            .next_token()
+            .map_err(|fault| fault.map(GrammarFault::Lexical))?;
+        self.token = next.item;
+        self.place = next.place as u16;
+        Ok(())
     }
 
     /// The class of the token ahead.
