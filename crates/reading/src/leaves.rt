@@ -9,7 +9,7 @@ ghost use Rattle.syntax.specs.Syntax.{rule, number};
 ghost use Rattle.reading.specs.States.{stream_of, Builds, shown, of_node};
 ghost use Rattle.reading.specs.Steps.{taken, jointly, blamed, variable_made, bare_made, of_variable_made, positive_made, negative_made};
 
-use crate::nodes::{over, titled, valued};
+use crate::nodes::valued;
 use crate::readers::{Numbered, Reader};
 use grammar::classing::TokenClass;
 use grammar::faults::GrammarFault;
@@ -56,7 +56,7 @@ impl<'s, 't> Reader<'s, 't> {
         ensures { Builds variable_made (taken 51 (stream_of self.old)) self.old (shown of_node result) self.new }
     {
         let name = self.name()?;
-        Ok(self.record(titled(Kind::Variable, name, 0, 0, 0, 0)))
+        Ok(self.record(name.node(Kind::Variable)))
     }
 
     /// A token, read as a node.
@@ -77,7 +77,10 @@ impl<'s, 't> Reader<'s, 't> {
     {
         let place = self.take(class)?;
         let variable = self.variable()?;
-        Ok(self.record(over(kind, place, variable.number, 0, 0)))
+        Ok(self.record(Node {
+            first: variable.number,
+            ..Node::bare(kind, place)
+        }))
     }
 
     /// A number that stands alone.
@@ -94,10 +97,9 @@ impl<'s, 't> Reader<'s, 't> {
         ensures { Builds negative_made (jointly (stream_of self.old)) self.old (shown of_node result) self.new }
     {
         let ahead = self.place;
-        let place = match self.take(TokenClass::Sign(Sign::Minus)) {
-            Ok(place) => place,
-            Err(fault) => return Err(blamed(fault, ahead)),
-        };
+        let place = self
+            .take(TokenClass::Sign(Sign::Minus))
+            .map_err(|fault| blamed(fault, ahead))?;
         let magnitude = magnitude(self.token);
         self.one_of(&[TokenClass::Number, TokenClass::Large])?;
         Ok(self.record(valued(place, below(magnitude))))

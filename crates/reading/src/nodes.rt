@@ -1,21 +1,21 @@
 //! Records of nodes.
 ghost use Rattle.std.specs.Prelude.{◌≡◌};
-ghost use Rattle.syntax.specs.Nodes.{titled, over, valued};
+ghost use Rattle.syntax.specs.Nodes.{titled, valued};
 ghost use Rattle.table.specs.declared.kinds.Kind.TheVariants as kind;
 
 use crate::readers::Name;
 use table::kinds::Kind;
 use table::nodes::Node;
 
-/// A node over others.
-pub fn over(kind: Kind, place: u16, first: u16, second: u16, third: u16) -> Node
-    ensures { result ≡ over kind place first second third }
-{
-    Node {
-        first,
-        second,
-        third,
-        ..Node::bare(kind, place)
+impl Name {
+    /// A node with the name, at its place.
+    pub fn node(self, kind: Kind) -> Node
+        ensures { result ≡ titled kind self.length self.place 0 0 0 0 }
+    {
+        Node {
+            length: self.length,
+            ..Node::bare(kind, self.place)
+        }
     }
 }
 
@@ -26,19 +26,5 @@ pub fn valued(place: u16, value: i32) -> Node
     Node {
         value,
         ..Node::bare(Kind::Number, place)
-    }
-}
-
-/// A node with a name.
-pub fn titled(kind: Kind, name: Name, first: u16, second: u16, third: u16, value: u8) -> Node
-    ensures { result ≡ titled kind name.length name.place first second third value }
-{
-    Node {
-        length: name.length,
-        first,
-        second,
-        third,
-        value: value as i32,
-        ..Node::bare(kind, name.place)
     }
 }

@@ -13,8 +13,8 @@ returns-then-is_end c =
     let self = c.args.self.now in
     sym (two_not _ _ (lexeme self.token) self.place _
     (λ some e. elim c.then-is_end.branch [
-      then-is_end-via-then-is_end w ↦ both_ways _ some (sym c.is_end.ensures ∙ w.if-is_end.true)
-    | then-is_end-via-else-is_end+then-ne w ↦ class_differs _ _ w.ne.ensures w.if-ne.true (w.class.ensures ∙ front_class_lem (lexeme self.token) self.place _ ∙ e)
+      | then-is_end-via-then-is_end w ↦ both_ways _ some (sym c.is_end.ensures ∙ w.if-is_end.true)
+      | then-is_end-via-else-is_end+then-ne w ↦ class_differs _ _ w.ne.ensures w.if-ne.true (w.class.ensures ∙ front_class_lem (lexeme self.token) self.place _ ∙ e)
     ]))
 
 pub returns-then-not-is_end : goal.returns-then-not-is_end

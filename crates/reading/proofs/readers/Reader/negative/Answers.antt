@@ -1,23 +1,33 @@
-use Rattle.std.proofs.Common.{◌≤◌, Err, sym, refl, ap, ◌∙◌, subst}
+use Rattle.std.proofs.Common.{◌≡◌, ◌≤◌, Ok, Err, sym, refl, ap, ◌∙◌, subst, rules}
 use Rattle.text.specs.Tokens.{lexeme}
+use Rattle.grammar.specs.Streams.{Refusal}
 use Rattle.syntax.specs.Nodes.{minus}
-use Rattle.reading.specs.States.{of_node}
+use Rattle.reading.specs.States.{stream_of, shown, of_place, of_node, Takes}
+use Rattle.reading.specs.Steps.{taken, token_made, blamed}
 use Rattle.reading.proofs.Sequences.{exit_node, refuse_as, refused, node, valued_is}
 use Rattle.reading.proofs.Values.{joint_refused, joined, not_joined, negative_value, magnitude_fits}
 use Rattle.reading.proofs.readers.Reader.negative.Goals as goal
 
-pub returns-in-Err : goal.returns-in-Err
-returns-in-Err c =
-    let told = c.in-Err.ensures in
+pub returns-in_err-place : goal.returns-in_err-place
+returns-in_err-place c =
     let self = c.args.self.now in
-    record { reads = refuse_as told.reads (joint_refused (lexeme self.token) self.place _ c.in-Err.fault (refused told.reads) ∙ ap Err (sym c.blamed.ensures)); last = tt }
+    let told : (f : Refusal) × (c.take.result ≡ Err f) × (c.in_err-place.field-0.0 ≡ blamed self.place f) = search rules in
+    let takes = subst (λ r. Takes (token_made 41) (taken 41 (stream_of self)) self (shown of_place r) c.take.new.self) told.1 c.take.ensures in
+    exit_node of_node _ c.from_residual.ensures.1 (refuse_as takes.reads (joint_refused (lexeme self.token) self.place _ told.0 (refused takes.reads) ∙ ap Err (sym told.2)))
 
 pub returns-in_err-one_of : goal.returns-in_err-one_of
-returns-in_err-one_of c = exit_node of_node _ c.from_residual.ensures.1 (not_joined c.in-Ok.ensures c.in_err-one_of.ensures)
+returns-in_err-one_of c =
+    let self = c.args.self.now in
+    let told : c.take.result ≡ Ok c.in_ok-place.place = search rules in
+    let takes = subst (λ r. Takes (token_made 41) (taken 41 (stream_of self)) self (shown of_place r) c.take.new.self) told c.take.ensures in
+    exit_node of_node _ c.from_residual-in_err-one_of.ensures.1 (not_joined takes c.in_err-one_of.ensures)
 
 pub returns : goal.returns
 returns c =
-    let j = joined c.in-Ok.ensures c.in_ok-one_of.ensures in
+    let self = c.args.self.now in
+    let told : c.take.result ≡ Ok c.in_ok-place.place = search rules in
+    let takes = subst (λ r. Takes (token_made 41) (taken 41 (stream_of self)) self (shown of_place r) c.take.new.self) told c.take.ensures in
+    let j = joined takes c.in_ok-one_of.ensures in
     let is = c.magnitude-magnitude.ensures ∙ j.magnitude_is in
     let after = c.take.new.self in
     let small = magnitude_fits (lexeme after.token) after.fits in

@@ -1,4 +1,4 @@
-use Rattle.std.proofs.Common.{refl}
+use Rattle.std.proofs.Common.{refl, rules}
 use Rattle.grammar.specs.Grammars.{seq, tok, Tree}
 use Rattle.grammar.specs.TokenClasses.{class_number}
 use Rattle.reading.specs.States.{of_node}
@@ -19,4 +19,4 @@ unfolding Tree of_variable_made pair leaf_made
 returns c = λ d.
     let s = past_token (begin d (seq (tok (class_number c.args.class)) (tok 51)) c.args.self.now) c.in_ok-place.ensures in
     let t = only s.more (as_leaf_lem d 51 c.in_ok-variable.ensures.reads) in
-    node t.whole c.record.ensures (over_is c.args.kind c.over.ensures s.place t.number refl refl) refl
+    node t.whole c.record.ensures (over_is c.args.kind {p = c.in_ok-place.place} {f = c.in_ok-variable.variable.number} {s = 0} {u = 0} (search rules) s.place t.number refl refl) refl

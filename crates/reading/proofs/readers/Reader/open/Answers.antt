@@ -10,8 +10,8 @@ pub returns-then-is_end-clause-takes : goal.returns-then-is_end-clause-takes
 returns-then-is_end-clause-takes c =
     shut_misfit c.args.allowed (class_number c.args.class) c.args.self.now c.if-allowed-gt0.false c.misfit.ensures
     (λ some e. elim c.then-is_end.branch [
-      then-is_end-via-then-is_end w ↦ both_ways _ some (sym c.is_end.ensures ∙ w.if-is_end.true)
-    | then-is_end-via-else-is_end+then-ne w ↦ class_differs _ _ w.ne.ensures w.if-ne.true (w.class.ensures ∙ e)
+      | then-is_end-via-then-is_end w ↦ both_ways _ some (sym c.is_end.ensures ∙ w.if-is_end.true)
+      | then-is_end-via-else-is_end+then-ne w ↦ class_differs _ _ w.ne.ensures w.if-ne.true (w.class.ensures ∙ e)
     ])
 
 pub returns-clause-takes : goal.returns-clause-takes

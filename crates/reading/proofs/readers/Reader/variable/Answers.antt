@@ -10,4 +10,4 @@ returns-in_err-name c = exit_node of_node _ c.from_residual.ensures.1 (refused_a
 pub returns : goal.returns
 returns c =
     let s = single silent_name c.in_ok-name.ensures in
-    node s.whole c.record.ensures (titled_is kind.Variable c.titled.ensures s.number s.place refl refl refl refl) refl
+    node s.whole c.record.ensures (titled_is kind.Variable c.node.ensures s.number s.place refl refl refl refl) refl
