@@ -160,6 +160,10 @@ exit_node {act = act} {R} {a} {b} view r e t = let p = err_from_is_err_and r e i
 pub exit_token : {T X : Type 0} {act : Makes X} {R : Read X} {a b : Reader} {f : Refusal} (view : T → ℕ × ℕ) (r : Result T Refusal) → IsErrAnd r (λ y. y ≡ f) → Reads act R a (Err f) b → Takes act R a (shown view r) b
 exit_token {act = act} {R} {a} {b} view r e t = let p = err_from_is_err_and r e in subst (λ x. Takes act R a x b) (sym (ap (shown view) (p.1 ∙ ap Err p.2))) (record { reads = t; steps = tt })
 
+-- a token's answer, where the result is known in other words
+pub as_result : {T X : Type 0} {act : Makes X} {R : Read X} {a b : Reader} (view : T → ℕ × ℕ) {r s : Result T Refusal} → r ≡ s → Takes act R a (shown view r) b → Takes act R a (shown view s) b
+as_result {act = act} {R} {a} {b} view e t = subst (λ x. Takes act R a (shown view x) b) e t
+
 -- ---- a grammar that is left
 
 -- what has no nodes, wherever it stands

@@ -12,7 +12,7 @@ use Rattle.grammar.specs.Streams.{Stream, Refusal, from}
 use Rattle.grammar.specs.TokenClasses.{class_of, is_class}
 use Rattle.grammar.proofs.Inversions.{never_ok, passed_on}
 use Rattle.reading.specs.declared.readers.Reader.{Reader}
-use Rattle.reading.specs.States.{stream_by, stream_of, state_of, Lends, applied, written, Reads, Takes}
+use Rattle.reading.specs.States.{stream_by, stream_of, IsAhead, state_of, Lends, applied, written, Reads, Takes}
 use Rattle.reading.specs.Steps.{tail_of, front_of, misfit_of, taken, opened, token_made, name_made}
 use Rattle.reading.proofs.Sequences.{refused}
 
@@ -60,13 +60,13 @@ taken_state a b t c =
     ap (λ x. record { stream = stream_of b; count = b.count; table = x }) t
     ∙ ap (λ k. record { stream = stream_of b; count = k; table = a.table.now }) (c ∙ (let z : a.count ≡ a.count + 0 = omega arith in z))
 
-front : (a : Reader) → front_of (stream_of a) ≡ class_of (lexeme a.token)
+pub front : (a : Reader) → front_of (stream_of a) ≡ class_of (lexeme a.token)
 front a = front_class_lem (lexeme a.token) a.place _
 
 -- the token ahead was taken
-pub took : (c : ℕ) (a b : Reader) → is_end (lexeme a.token) ≡ false → front_of (stream_of a) ≡ c → Lends a b → (b.table.now ≡ a.table.now) × (b.count ≡ a.count) → a.place < b.place → Ok (stream_of b) ≡ tail_of (stream_of a) → Takes (token_made c) (taken c (stream_of a)) a (Ok (0, a.place)) b
-took c a b h e l w on s =
-    let k = taken_here (lexeme a.token) a.place _ c h (sym (front a) ∙ e) in
+pub took : (c : ℕ) (a b : Reader) → IsAhead c a → Lends a b → (b.table.now ≡ a.table.now) × (b.count ≡ a.count) → a.place < b.place → Ok (stream_of b) ≡ tail_of (stream_of a) → Takes (token_made c) (taken c (stream_of a)) a (Ok (0, a.place)) b
+took c a b is l w on s =
+    let k = taken_here (lexeme a.token) a.place _ c is.0 is.1 in
     let read = k.taken_as ∙ ap (passed (at (lexeme a.token) a.place, k.class)) (sym s) in
     let same = w.1 in
     record {
@@ -80,15 +80,15 @@ took c a b h e l w on s =
     }
 
 -- the token ahead was not taken, since it is none or of another class
-pub not_taken : (c : ℕ) (a : Reader) {f : Refusal} → f ≡ misfit_of (stream_of a) → (is_end (lexeme a.token) ≡ false → front_of (stream_of a) ≡ c → ⊥) → Takes (token_made c) (taken c (stream_of a)) a (Err f) a
+pub not_taken : (c : ℕ) (a : Reader) {f : Refusal} → f ≡ misfit_of (stream_of a) → (IsAhead c a → ⊥) → Takes (token_made c) (taken c (stream_of a)) a (Err f) a
 not_taken c a m n =
-    let read = taken_not (lexeme a.token) a.place _ c (λ h e. n h (front a ∙ e)) ∙ ap Err (sym m) in
+    let read = taken_not (lexeme a.token) a.place _ c (λ h e. n (h, e)) ∙ ap Err (sym m) in
     record { reads = record { lends = refl; goes = tt; reads = sym (ap (written (token_made c) (state_of a)) read) }; steps = tt }
 
 -- the token ahead is of the class, and a fault comes after it
-pub took_not : (c : ℕ) (a b : Reader) {f : Refusal} → is_end (lexeme a.token) ≡ false → front_of (stream_of a) ≡ c → Lends a b → Err f ≡ tail_of (stream_of a) → Reads (token_made c) (taken c (stream_of a)) a (Err f) b
-took_not c a b h e l s =
-    let k = taken_here (lexeme a.token) a.place _ c h (sym (front a) ∙ e) in
+pub took_not : (c : ℕ) (a b : Reader) {f : Refusal} → IsAhead c a → Lends a b → Err f ≡ tail_of (stream_of a) → Reads (token_made c) (taken c (stream_of a)) a (Err f) b
+took_not c a b is l s =
+    let k = taken_here (lexeme a.token) a.place _ c is.0 is.1 in
     let read = k.taken_as ∙ ap (passed (at (lexeme a.token) a.place, k.class)) (sym s) in
     record { lends = l; goes = tt; reads = sym (ap (written (token_made c) (state_of a)) read) }
 
@@ -113,11 +113,11 @@ shut : (d c : ℕ) (a : Reader) {f : Refusal} → d ≤ 0 → opened 0 c (stream
 shut zero c a h read = record { reads = record { lends = refl; goes = tt; reads = sym (ap (written (token_made c) (state_of a)) read) }; steps = tt }
 shut (suc d) c a h read = absurd (omega arith)
 
-pub shut_misfit : (d c : ℕ) (a : Reader) {f : Refusal} → d ≤ 0 → f ≡ misfit_of (stream_of a) → (is_end (lexeme a.token) ≡ false → front_of (stream_of a) ≡ c → ⊥) → Takes (token_made c) (opened d c (stream_of a)) a (Err f) a
-shut_misfit d c a h m n = shut d c a h (closed_not (lexeme a.token) a.place _ c (λ i e. n i (front a ∙ e)) ∙ ap Err (sym m))
+pub shut_misfit : (d c : ℕ) (a : Reader) {f : Refusal} → d ≤ 0 → f ≡ misfit_of (stream_of a) → (IsAhead c a → ⊥) → Takes (token_made c) (opened d c (stream_of a)) a (Err f) a
+shut_misfit d c a h m n = shut d c a h (closed_not (lexeme a.token) a.place _ c (λ i e. n (i, e)) ∙ ap Err (sym m))
 
-pub shut_deep : (d c : ℕ) (a : Reader) {p : ℕ} → d ≤ 0 → p ≡ a.place → is_end (lexeme a.token) ≡ false → front_of (stream_of a) ≡ c → Takes (token_made c) (opened d c (stream_of a)) a (Err (at TooDeep p)) a
-shut_deep d c a h e i k = shut d c a h (closed_here (lexeme a.token) a.place _ c i (sym (front a) ∙ k) ∙ ap (λ q. Err (at TooDeep q)) (sym e))
+pub shut_deep : (d c : ℕ) (a : Reader) {p : ℕ} → d ≤ 0 → p ≡ a.place → IsAhead c a → Takes (token_made c) (opened d c (stream_of a)) a (Err (at TooDeep p)) a
+shut_deep d c a h e is = shut d c a h (closed_here (lexeme a.token) a.place _ c is.0 is.1 ∙ ap (λ q. Err (at TooDeep q)) (sym e))
 
 -- ---- two tokens ahead
 

@@ -1,5 +1,5 @@
 -- A reader as what is still to be read and what is written.
-use Rattle.std.specs.Prelude.{◌≡◌, ℕ, zero, suc, ◌+◌, ◌<◌, ◌≤◌, cond, List, [], ◌∷◌, length, IfOk, Ok, Err, Result, slice_index_or, slice_set}
+use Rattle.std.specs.Prelude.{◌≡◌, ℕ, zero, suc, ◌+◌, ◌<◌, ◌≤◌, false, cond, List, [], ◌∷◌, length, IfOk, Ok, Err, Result, slice_index_or, slice_set}
 use Rattle.std.proofs.lemmas.List.Edits.{sets}
 use Rattle.table.specs.declared.nodes.Node.{Node}
 use Rattle.table.specs.Records.{zero as zeros}
@@ -8,7 +8,7 @@ use Rattle.text.specs.Steps.{at}
 use Rattle.text.specs.Tokens.{Lexeme, lexeme, is_end}
 use Rattle.grammar.specs.Parsers.{Read}
 use Rattle.grammar.specs.Streams.{Stream, Refusal}
-use Rattle.grammar.specs.TokenClasses.{class_number}
+use Rattle.grammar.specs.TokenClasses.{class_number, class_of}
 use Rattle.syntax.specs.Nodes.{Made, Makes, with_next}
 use Rattle.reading.specs.declared.readers.Reader.{Reader}
 use Rattle.reading.specs.declared.readers.Numbered.{Numbered}
@@ -28,6 +28,10 @@ stream_by t p l =
 abbrev pub stream_of : Reader → Stream
 stream_of r =
     stream_by (lexeme r.token) r.place (lexed_from (suc (length r.lexer.source.now)) r.lexer.source.now r.lexer.place)
+
+-- the token ahead is of a class, and not the end
+abbrev pub IsAhead : ℕ → Reader → Type 0
+IsAhead c r = (is_end (lexeme r.token) ≡ false) × (class_of (lexeme r.token) ≡ c)
 
 unfoldable pub state_of : Reader → State
 state_of r = record { stream = stream_of r; count = r.count; table = r.table.now }

@@ -1,9 +1,10 @@
 //! One token on, and one record more.
+ghost use Rattle.std.specs.Bool.{Decides};
 ghost use Rattle.std.specs.Prelude.{◌≡◌, ◌<◌, false, OnOk, map, slice_set};
 ghost use Rattle.grammar.specs.Parsers.{two};
 ghost use Rattle.grammar.specs.TokenClasses.{class_number};
 ghost use Rattle.text.specs.Tokens.{is_end, lexeme};
-ghost use Rattle.reading.specs.States.{stream_of, Lends, Written, linked_at, Recorded, Chained, Takes, shown, of_place, of_name, of_mark, of_node};
+ghost use Rattle.reading.specs.States.{stream_of, IsAhead, Lends, Written, linked_at, Recorded, Chained, Takes, shown, of_place, of_name, of_mark, of_node};
 ghost use Rattle.reading.specs.Steps.{advanced, tail_of, front_of, misfit_of, taken, opened, any_taken, token_made, name_made, mark_made};
 
 use crate::readers::{Mark, Name, Numbered, Reader};
@@ -45,11 +46,18 @@ impl<'s, 't> Reader<'s, 't> {
         token_class(self.token)
     }
 
+    /// Whether the token ahead is of a class. The end is of none.
+    fn is_ahead(&self, class: TokenClass) -> bool
+        ensures { Decides result (IsAhead (class_number class) self.now) }
+    {
+        !is_end(self.token) && self.class() == class
+    }
+
     /// Whether the tokens ahead are of two classes.
     pub fn followed(&self, first: TokenClass, second: TokenClass) -> bool
         ensures { result ≡ two (class_number first) (class_number second) (stream_of self.now).tokens }
     {
-        if is_end(self.token) || self.class() != first {
+        if !self.is_ahead(first) {
             return false;
         }
         let mut lexer = self.lexer;
@@ -78,7 +86,7 @@ impl<'s, 't> Reader<'s, 't> {
     pub fn take(&mut self, class: TokenClass) -> Result<u16, Placed<GrammarFault>>
         ensures { Takes (token_made (class_number class)) (taken (class_number class) (stream_of self.old)) self.old (shown of_place result) self.new }
     {
-        if is_end(self.token) || self.class() != class {
+        if !self.is_ahead(class) {
             return Err(self.misfit());
         }
         let place = self.place;
@@ -94,7 +102,7 @@ impl<'s, 't> Reader<'s, 't> {
         if allowed > 0 {
             return self.take(class);
         }
-        if is_end(self.token) || self.class() != class {
+        if !self.is_ahead(class) {
             return Err(self.misfit());
         }
         Err(Placed {

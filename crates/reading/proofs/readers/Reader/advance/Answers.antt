@@ -1,7 +1,7 @@
 use Rattle.std.proofs.Common.{◌≡◌, suc, ◌≤◌, length, Ok, Err, sym, ap, ◌∙◌, subst, arith, rules}
 use Rattle.text.specs.Laws.{Stepped}
 use Rattle.text.specs.Lexings.{lexed_from}
-use Rattle.text.specs.Steps.{at, answered}
+use Rattle.text.specs.Steps.{answered}
 use Rattle.text.specs.Tokens.{lexeme}
 use Rattle.text.specs.declared.places.Placed.{Placed}
 use Rattle.text.specs.declared.tokens.LexFault.{LexFault}

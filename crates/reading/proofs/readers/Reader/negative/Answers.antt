@@ -2,9 +2,9 @@ use Rattle.std.proofs.Common.{◌≡◌, ◌≤◌, Ok, Err, sym, refl, ap, ◌�
 use Rattle.text.specs.Tokens.{lexeme}
 use Rattle.grammar.specs.Streams.{Refusal}
 use Rattle.syntax.specs.Nodes.{minus}
-use Rattle.reading.specs.States.{stream_of, shown, of_place, of_node, Takes}
-use Rattle.reading.specs.Steps.{taken, token_made, blamed}
-use Rattle.reading.proofs.Sequences.{exit_node, refuse_as, refused, node, valued_is}
+use Rattle.reading.specs.States.{of_place, of_node}
+use Rattle.reading.specs.Steps.{blamed}
+use Rattle.reading.proofs.Sequences.{as_result, exit_node, refuse_as, refused, node, valued_is}
 use Rattle.reading.proofs.Values.{joint_refused, joined, not_joined, negative_value, magnitude_fits}
 use Rattle.reading.proofs.readers.Reader.negative.Goals as goal
 
@@ -12,21 +12,21 @@ pub returns-in_err-place : goal.returns-in_err-place
 returns-in_err-place c =
     let self = c.args.self.now in
     let told : (f : Refusal) × (c.take.result ≡ Err f) × (c.in_err-place.field-0.0 ≡ blamed self.place f) = search rules in
-    let takes = subst (λ r. Takes (token_made 41) (taken 41 (stream_of self)) self (shown of_place r) c.take.new.self) told.1 c.take.ensures in
+    let takes = as_result of_place told.1 c.take.ensures in
     exit_node of_node _ c.from_residual.ensures.1 (refuse_as takes.reads (joint_refused (lexeme self.token) self.place _ told.0 (refused takes.reads) ∙ ap Err (sym told.2)))
 
 pub returns-in_err-one_of : goal.returns-in_err-one_of
 returns-in_err-one_of c =
     let self = c.args.self.now in
     let told : c.take.result ≡ Ok c.in_ok-place.place = search rules in
-    let takes = subst (λ r. Takes (token_made 41) (taken 41 (stream_of self)) self (shown of_place r) c.take.new.self) told c.take.ensures in
+    let takes = as_result of_place told c.take.ensures in
     exit_node of_node _ c.from_residual-in_err-one_of.ensures.1 (not_joined takes c.in_err-one_of.ensures)
 
 pub returns : goal.returns
 returns c =
     let self = c.args.self.now in
     let told : c.take.result ≡ Ok c.in_ok-place.place = search rules in
-    let takes = subst (λ r. Takes (token_made 41) (taken 41 (stream_of self)) self (shown of_place r) c.take.new.self) told c.take.ensures in
+    let takes = as_result of_place told c.take.ensures in
     let j = joined takes c.in_ok-one_of.ensures in
     let is = c.magnitude-magnitude.ensures ∙ j.magnitude_is in
     let after = c.take.new.self in
