@@ -1,22 +1,28 @@
 -- Operators of a layer one after another, arguments, and what is denied: what each turn makes.
-use Rattle.std.proofs.Common.{◌≡◌, ℕ, zero, suc, ◌+◌, ◌-◌, ◌<◌, ◌≤◌, Bool, true, List, [], ◌∷◌, ◌++◌, length, Ok, Err, sym, refl, ap, ◌∙◌, subst, inl, inr, arith}
+use Rattle.std.proofs.Common.{◌≡◌, ℕ, zero, suc, ◌+◌, ◌-◌, ◌<◌, ◌≤◌, Bool, true, false, List, [], ◌∷◌, ◌++◌, length, map, Ok, Err, sym, refl, ap, ◌∙◌, subst, inl, inr, arith}
 use Rattle.std.proofs.lemmas.List.{length-append, append_assoc}
+use Rattle.std.specs.List.{list_any}
 use Rattle.table.specs.declared.kinds.Kind.{Kind}
 use Rattle.table.specs.declared.kinds.Kind.TheVariants as kind
 use Rattle.table.specs.declared.nodes.Node.{Node}
+use Rattle.text.specs.declared.spellings.Keyword.TheVariants as word
 use Rattle.text.specs.declared.spellings.Sign.TheVariants as mark
 use Rattle.grammar.specs.Firsts.{firsts}
-use Rattle.grammar.specs.Grammars.{seq, nest, Tree, TreeAt, Inner}
+use Rattle.grammar.specs.Grammars.{seq, tok, nest, Tree, TreeAt, Inner}
 use Rattle.grammar.specs.Parsers.{Read, parse_at}
 use Rattle.grammar.specs.Streams.{Stream, Refusal}
-use Rattle.grammar.specs.TokenClasses.{among}
+use Rattle.grammar.specs.contracts.classing.TokenClassPartialEq.TheImpl.{ghosts}
+use Rattle.grammar.specs.declared.classing.TokenClass.{TokenClass}
+use Rattle.grammar.specs.declared.classing.TokenClass.TheVariants as class
+use Rattle.grammar.specs.TokenClasses.{class_number, among}
+use Rattle.grammar.proofs.ClassNumbers.{class_one, class_among}
 use Rattle.syntax.specs.Nodes.{Made, Makes, after, with, over, joining, operated, chosen, inner_made, rule_made, operand_made, product_made, sum_made, compared_made, comparison_made, negation_made, expression_made, variable, appended, linked, none}
 use Rattle.syntax.specs.Syntax.{G, rule, arguments, negated, operand, sum, compared, comparison, negation, expression, sign}
 use Rattle.reading.specs.declared.readers.Reader.{Reader}
 use Rattle.reading.specs.Nests.{nest_made, rule_at}
 use Rattle.reading.specs.States.{stream_of, Recorded, Answer, Reads, Takes, Builds}
-use Rattle.reading.specs.Steps.{front_of, taken, opened, any_taken, token_made, mark_made}
-use Rattle.reading.proofs.Branches.{on_first, left_tree}
+use Rattle.reading.specs.Steps.{front_of, taken, opened, any_taken, token_made, mark_made, bare_made, of_variable_made}
+use Rattle.reading.proofs.Branches.{on_first, left_tree, none_of}
 use Rattle.reading.proofs.Loops.{Item, Going, Listing, extended, items, goes_from, lists_on}
 use Rattle.reading.proofs.Nests.{nested, open_left}
 use Rattle.reading.proofs.Sequences.{begin, first, only, past_token, pass, node, pair, stop_last, over_is}
@@ -122,8 +128,45 @@ module _ (d : ℕ) {a b : Reader} {r : Answer} where
 pub take_signs : {xs ys : List ℕ} {a b : Reader} {r : Answer} → xs ≡ ys → Takes mark_made (any_taken xs (stream_of a)) a r b → Takes mark_made (any_taken ys (stream_of a)) a r b
 take_signs {a = a} {b} {r} e t = subst (λ cs. Takes mark_made (any_taken cs (stream_of a)) a r b) e t
 
-pub layer_begins : (l : Layer) (xs : List ℕ) (c : ℕ) (b : Bool) (s : Stream) → xs ≡ first_sign l ∷ other_signs l → c ≡ front_of s → b ≡ among xs c → among (firsts (turn_gram l)) (front_of s) ≡ b
-layer_begins l xs c b s e f h = ap (λ cs. among cs (front_of s)) (layer_signs l ∙ sym e) ∙ ap (among xs) (sym f) ∙ sym h
+-- a node of a token whose class is known by its number
+pub bare_by : (k : Kind) {c e : ℕ} {a b : Reader} {r : Answer} → c ≡ e → Builds (bare_made c k) (taken c (stream_of a)) a r b → Builds (bare_made e k) (taken e (stream_of a)) a r b
+bare_by k {a = a} {b} {r} is t = subst (λ n. Builds (bare_made n k) (taken n (stream_of a)) a r b) is t
+
+pub of_variable_by : (d : ℕ) (k : Kind) {c e : ℕ} {a b : Reader} {r : Answer} → c ≡ e → Builds (of_variable_made d c k) (parse_at rule d (seq (tok c) (tok 51)) (stream_of a)) a r b → Builds (of_variable_made d e k) (parse_at rule d (seq (tok e) (tok 51)) (stream_of a)) a r b
+of_variable_by d k {a = a} {b} {r} is t = subst (λ n. Builds (of_variable_made d n k) (parse_at rule d (seq (tok n) (tok 51)) (stream_of a)) a r b) is t
+
+pub layer_begins : (l : Layer) (cs : List TokenClass) (c : TokenClass) (s : Stream) {r b : Bool} → map class_number cs ≡ first_sign l ∷ other_signs l → class_number c ≡ front_of s → r ≡ list_any (λ x. ghosts.eq x c) cs → r ≡ b → among (firsts (turn_gram l)) (front_of s) ≡ b
+layer_begins l cs c s e is told found = ap (λ ns. among ns (front_of s)) (layer_signs l ∙ sym e) ∙ class_among cs c is told found
+
+-- ---- the classes that the code tests for
+
+abbrev pub signs_of_comparison : List TokenClass
+signs_of_comparison = class.Sign mark.Equal ∷ (class.Sign mark.Less ∷ (class.Sign mark.AtMost ∷ []))
+
+abbrev pub starts_of_compared : List TokenClass
+starts_of_compared = class.Sign mark.Equal ∷ (class.Sign mark.Less ∷ (class.Sign mark.AtMost ∷ (class.Word word.In ∷ [])))
+
+abbrev pub starts_of_expression : List TokenClass
+starts_of_expression =
+    class.Sign mark.Not ∷ (class.Number ∷ (class.Sign mark.Minus ∷ (class.Word word.True ∷ (class.Word word.False ∷
+    (class.Name ∷ (class.Word word.Min ∷ (class.Word word.Max ∷ (class.Sign mark.Count ∷ (class.Sign mark.Open ∷ [])))))))))
+
+-- no operand but one in parentheses begins with the class
+pub record NoOperand (c : TokenClass) : Type 0 where
+  pub number : c ≡ class.Number → ⊥
+  pub minus : c ≡ class.Sign mark.Minus → ⊥
+  pub yes : c ≡ class.Word word.True → ⊥
+  pub not : c ≡ class.Word word.False → ⊥
+  pub name : c ≡ class.Name → ⊥
+  pub least : c ≡ class.Word word.Min → ⊥
+  pub greatest : c ≡ class.Word word.Max → ⊥
+  pub count : c ≡ class.Sign mark.Count → ⊥
+
+pub no_operand : (c : TokenClass) {n : ℕ} → class_number c ≡ n → NoOperand c → among (52 ∷ (41 ∷ (21 ∷ (22 ∷ (51 ∷ (23 ∷ (24 ∷ (44 ∷ [])))))))) n ≡ false
+no_operand c is off =
+    ap (among (52 ∷ (41 ∷ (21 ∷ (22 ∷ (51 ∷ (23 ∷ (24 ∷ (44 ∷ []))))))))) (sym is)
+    ∙ none_of (class_number c) (52 ∷ (41 ∷ (21 ∷ (22 ∷ (51 ∷ (23 ∷ (24 ∷ (44 ∷ []))))))))
+    ((λ e. off.number (class_one c class.Number e)), ((λ e. off.minus (class_one c (class.Sign mark.Minus) e)), ((λ e. off.yes (class_one c (class.Word word.True) e)), ((λ e. off.not (class_one c (class.Word word.False) e)), ((λ e. off.name (class_one c class.Name e)), ((λ e. off.least (class_one c (class.Word word.Min) e)), ((λ e. off.greatest (class_one c (class.Word word.Max) e)), ((λ e. off.count (class_one c (class.Sign mark.Count) e)), tt))))))))
 
 -- ---- the first turn
 

@@ -10,19 +10,41 @@ ghost use Rattle.reading.specs.Nests.{nest_made, rule_at};
 ghost use Rattle.expressions.specs.Rules.{arguments_gram, arguments_made};
 
 use crate::layers::{Layer, operator_kind};
-use grammar::classing::{NAME, NUMBER};
+use grammar::classing::TokenClass;
 use grammar::faults::GrammarFault;
-use reading::classes::{
-    AT_MOST, CLOSE, COMMA, EQUAL, FALSE, HASH, IN, LESS, MAX, MIN, MINUS, NOT, OPEN, TRUE, among,
-};
-use reading::nodes::{over, titled};
 use reading::readers::{Numbered, Reader};
 use table::kinds::Kind;
+use table::nodes::Node;
 use text::places::Placed;
+use text::spellings::{Keyword, Sign};
 
 /// The classes of the tokens that may begin an expression.
-pub const EXPRESSION_START: [u8; 10] = [
-    NOT, NUMBER, MINUS, TRUE, FALSE, NAME, MIN, MAX, HASH, OPEN,
+pub const EXPRESSION_START: [TokenClass; 10] = [
+    TokenClass::Sign(Sign::Not),
+    TokenClass::Number,
+    TokenClass::Sign(Sign::Minus),
+    TokenClass::Word(Keyword::True),
+    TokenClass::Word(Keyword::False),
+    TokenClass::Name,
+    TokenClass::Word(Keyword::Min),
+    TokenClass::Word(Keyword::Max),
+    TokenClass::Sign(Sign::Count),
+    TokenClass::Sign(Sign::Open),
+];
+
+/// The classes of the signs that compare two expressions.
+const COMPARISONS: [TokenClass; 3] = [
+    TokenClass::Sign(Sign::Equal),
+    TokenClass::Sign(Sign::Less),
+    TokenClass::Sign(Sign::AtMost),
+];
+
+/// The classes of the tokens that may go on a comparison: a sign, or the word between a value and a set.
+const COMPARED_START: [TokenClass; 4] = [
+    TokenClass::Sign(Sign::Equal),
+    TokenClass::Sign(Sign::Less),
+    TokenClass::Sign(Sign::AtMost),
+    TokenClass::Word(Keyword::In),
 ];
 
 /// An expression.
@@ -46,7 +68,7 @@ fn layered(
     ensures { Builds (layer_made layer (inner_made allowed)) (parse_at rule allowed (layer_gram layer) (stream_of reader.old)) reader.old (shown of_node result) reader.new }
 {
     let mut left = tighter(reader, layer, allowed)?;
-    while among(layer.signs(), reader.class()) {
+    while layer.signs().contains(&reader.class()) {
         left = operation(reader, layer, left.number, allowed)?;
     }
     Ok(left)
@@ -64,7 +86,11 @@ fn operation(
 {
     let sign = reader.one_of(layer.signs())?;
     let right = tighter(reader, layer, allowed)?;
-    Ok(reader.record(over(operator_kind(sign.class), sign.place, left, right.number, 0)))
+    Ok(reader.record(Node {
+        first: left,
+        second: right.number,
+        ..Node::bare(operator_kind(sign.class), sign.place)
+    }))
 }
 
 /// What stands between the operators of a layer.
@@ -88,7 +114,7 @@ fn tighter(
 fn negation(reader: &mut Reader<'_, '_>, allowed: u8) -> Result<Numbered, Placed<GrammarFault>>
     ensures { Builds (negation_made (inner_made allowed)) (parse_at rule allowed negation (stream_of reader.old)) reader.old (shown of_node result) reader.new }
 {
-    if reader.class() == NOT {
+    if reader.class() == TokenClass::Sign(Sign::Not) {
         denial(reader, allowed)
     } else {
         comparison(reader, allowed)
@@ -100,9 +126,12 @@ fn negation(reader: &mut Reader<'_, '_>, allowed: u8) -> Result<Numbered, Placed
 fn denial(reader: &mut Reader<'_, '_>, allowed: u8) -> Result<Numbered, Placed<GrammarFault>>
     ensures { Builds (nest_made allowed 47 negated) (parse_at rule allowed (nest 47 negated) (stream_of reader.old)) reader.old (shown of_node result) reader.new }
 {
-    let place = reader.open(NOT, allowed)?;
+    let place = reader.open(TokenClass::Sign(Sign::Not), allowed)?;
     let inner = negation(reader, allowed - 1)?;
-    Ok(reader.record(over(Kind::Not, place, inner.number, 0, 0)))
+    Ok(reader.record(Node {
+        first: inner.number,
+        ..Node::bare(Kind::Not, place)
+    }))
 }
 
 /// Sums with comparisons between them.
@@ -111,7 +140,7 @@ fn comparison(reader: &mut Reader<'_, '_>, allowed: u8) -> Result<Numbered, Plac
     ensures { Builds (comparison_made (inner_made allowed)) (parse_at rule allowed comparison (stream_of reader.old)) reader.old (shown of_node result) reader.new }
 {
     let mut left = layered(reader, Layer::Sum, allowed)?;
-    while among(&[EQUAL, LESS, AT_MOST, IN], reader.class()) {
+    while COMPARED_START.contains(&reader.class()) {
         left = compared(reader, left.number, allowed)?;
     }
     Ok(left)
@@ -126,14 +155,22 @@ fn compared(
 ) -> Result<Numbered, Placed<GrammarFault>>
     ensures { Builds (compared_made_over (inner_made allowed) left) (parse_at rule allowed compared (stream_of reader.old)) reader.old (shown of_node result) reader.new }
 {
-    if !among(&[EQUAL, LESS, AT_MOST], reader.class()) {
-        let place = reader.take(IN)?;
+    if !COMPARISONS.contains(&reader.class()) {
+        let place = reader.take(TokenClass::Word(Keyword::In))?;
         let right = reader.variable()?;
-        return Ok(reader.record(over(Kind::In, place, left, right.number, 0)));
+        return Ok(reader.record(Node {
+            first: left,
+            second: right.number,
+            ..Node::bare(Kind::In, place)
+        }));
     }
-    let sign = reader.one_of(&[EQUAL, LESS, AT_MOST])?;
+    let sign = reader.one_of(&COMPARISONS)?;
     let right = layered(reader, Layer::Sum, allowed)?;
-    Ok(reader.record(over(operator_kind(sign.class), sign.place, left, right.number, 0)))
+    Ok(reader.record(Node {
+        first: left,
+        second: right.number,
+        ..Node::bare(operator_kind(sign.class), sign.place)
+    }))
 }
 
 /// An operand.
@@ -142,14 +179,14 @@ fn operand(reader: &mut Reader<'_, '_>, allowed: u8) -> Result<Numbered, Placed<
     ensures { Builds (operand_made (inner_made allowed)) (parse_at rule allowed operand (stream_of reader.old)) reader.old (shown of_node result) reader.new }
 {
     match reader.class() {
-        NUMBER => reader.number(),
-        MINUS => reader.number(),
-        TRUE => reader.bare(TRUE, Kind::True),
-        FALSE => reader.bare(FALSE, Kind::False),
-        NAME => named(reader, allowed),
-        MIN => reader.of_variable(MIN, Kind::Least),
-        MAX => reader.of_variable(MAX, Kind::Greatest),
-        HASH => reader.of_variable(HASH, Kind::Count),
+        TokenClass::Number => reader.number(),
+        TokenClass::Sign(Sign::Minus) => reader.number(),
+        class @ TokenClass::Word(Keyword::True) => reader.bare(class, Kind::True),
+        class @ TokenClass::Word(Keyword::False) => reader.bare(class, Kind::False),
+        TokenClass::Name => named(reader, allowed),
+        class @ TokenClass::Word(Keyword::Min) => reader.of_variable(class, Kind::Least),
+        class @ TokenClass::Word(Keyword::Max) => reader.of_variable(class, Kind::Greatest),
+        class @ TokenClass::Sign(Sign::Count) => reader.of_variable(class, Kind::Count),
         _ => parentheses(reader, allowed),
     }
 }
@@ -160,11 +197,14 @@ fn named(reader: &mut Reader<'_, '_>, allowed: u8) -> Result<Numbered, Placed<Gr
     ensures { Builds (named_made (inner_made allowed)) (parse_at rule allowed named (stream_of reader.old)) reader.old (shown of_node result) reader.new }
 {
     let name = reader.name()?;
-    if reader.class() != OPEN {
-        return Ok(reader.record(titled(Kind::Variable, name, 0, 0, 0, 0)));
+    if reader.class() != TokenClass::Sign(Sign::Open) {
+        return Ok(reader.record(name.node(Kind::Variable)));
     }
     let first = arguments(reader, allowed)?;
-    Ok(reader.record(titled(Kind::Call, name, first, 0, 0, 0)))
+    Ok(reader.record(Node {
+        first,
+        ..name.node(Kind::Call)
+    }))
 }
 
 /// The arguments of a call, with the parentheses around them: the number of the first.
@@ -172,7 +212,7 @@ fn named(reader: &mut Reader<'_, '_>, allowed: u8) -> Result<Numbered, Placed<Gr
 fn arguments(reader: &mut Reader<'_, '_>, allowed: u8) -> Result<u16, Placed<GrammarFault>>
     ensures { Reads (nest_made allowed 38 arguments) (parse_at rule allowed (nest 38 arguments) (stream_of reader.old)) reader.old (shown of_list result) reader.new }
 {
-    let _place = reader.open(OPEN, allowed)?;
+    let _place = reader.open(TokenClass::Sign(Sign::Open), allowed)?;
     closed_arguments(reader, allowed - 1)
 }
 
@@ -182,7 +222,7 @@ fn closed_arguments(reader: &mut Reader<'_, '_>, allowed: u8) -> Result<u16, Pla
     ensures { (p : ℕ) → Reads (rule_at allowed arguments p) (parse_at rule allowed (rule arguments) (stream_of reader.old)) reader.old (shown of_list result) reader.new }
 {
     let first = expressions(reader, allowed)?;
-    reader.take(CLOSE)?;
+    reader.take(TokenClass::Sign(Sign::Close))?;
     Ok(first)
 }
 
@@ -191,13 +231,13 @@ fn closed_arguments(reader: &mut Reader<'_, '_>, allowed: u8) -> Result<u16, Pla
 fn expressions(reader: &mut Reader<'_, '_>, allowed: u8) -> Result<u16, Placed<GrammarFault>>
     ensures { Reads (arguments_made allowed) (parse_at rule allowed arguments_gram (stream_of reader.old)) reader.old (shown of_list result) reader.new }
 {
-    if !among(&EXPRESSION_START, reader.class()) {
+    if !EXPRESSION_START.contains(&reader.class()) {
         return Ok(0);
     }
     let mut first = expression(reader, allowed)?.number;
-    while reader.class() == COMMA {
+    while reader.class() == TokenClass::Sign(Sign::Comma) {
         let last = reader.nodes();
-        reader.take(COMMA)?;
+        reader.take(TokenClass::Sign(Sign::Comma))?;
         let next = expression(reader, allowed)?;
         first = reader.chain(first, last, next.number);
     }
@@ -209,7 +249,7 @@ fn expressions(reader: &mut Reader<'_, '_>, allowed: u8) -> Result<u16, Placed<G
 fn parentheses(reader: &mut Reader<'_, '_>, allowed: u8) -> Result<Numbered, Placed<GrammarFault>>
     ensures { Builds (nest_made allowed 38 parentheses) (parse_at rule allowed (nest 38 parentheses) (stream_of reader.old)) reader.old (shown of_node result) reader.new }
 {
-    let _place = reader.open(OPEN, allowed)?;
+    let _place = reader.open(TokenClass::Sign(Sign::Open), allowed)?;
     enclosed(reader, allowed - 1)
 }
 
@@ -219,6 +259,6 @@ fn enclosed(reader: &mut Reader<'_, '_>, allowed: u8) -> Result<Numbered, Placed
     ensures { (p : ℕ) → Builds (rule_at allowed parentheses p) (parse_at rule allowed (rule parentheses) (stream_of reader.old)) reader.old (shown of_node result) reader.new }
 {
     let inner = expression(reader, allowed)?;
-    reader.take(CLOSE)?;
+    reader.take(TokenClass::Sign(Sign::Close))?;
     Ok(inner)
 }

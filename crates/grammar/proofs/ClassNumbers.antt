@@ -109,3 +109,7 @@ turned m n = same_from_decides _ _ (Decides-eqb m n) (Decides-like _ (λ e. sym 
 pub among_classes : (cs : List TokenClass) (c : TokenClass) → list_any (λ x. ghosts.eq x c) cs ≡ among (map class_number cs) (class_number c)
 among_classes [] c = refl
 among_classes (x ∷ cs) c = rw (same_number x c, turned (class_number x) (class_number c), among_classes cs c)
+
+-- the same, of the class with a number
+pub class_among : (cs : List TokenClass) (c : TokenClass) {n : ℕ} {r b : Bool} → class_number c ≡ n → r ≡ list_any (λ x. ghosts.eq x c) cs → r ≡ b → among (map class_number cs) n ≡ b
+class_among cs c is told found = ap (among (map class_number cs)) (sym is) ∙ sym (among_classes cs c) ∙ sym told ∙ found

@@ -1,7 +1,10 @@
-use Rattle.std.proofs.Common.{◌≡◌, [], ◌∷◌, sym, refl, ap, ◌∙◌, arith, rules}
+use Rattle.std.proofs.Common.{[], ◌∷◌, sym, refl, ap, ◌∙◌, arith, rules}
 use Rattle.table.specs.declared.kinds.Kind.TheVariants as kind
 use Rattle.grammar.specs.Grammars.{Tree}
-use Rattle.grammar.specs.TokenClasses.{among}
+use Rattle.grammar.specs.declared.classing.TokenClass.TheVariants as class
+use Rattle.grammar.specs.TokenClasses.{keyword_class, sign_class, among}
+use Rattle.grammar.proofs.ClassNumbers.{class_is, class_is_not, class_differs, class_same, class_among}
+use Rattle.text.specs.declared.spellings.Sign.TheVariants as mark
 use Rattle.syntax.specs.Nodes.{inner_made, rule_made, operand_made, named_made, negation_made, expression_made, operator_kind}
 use Rattle.syntax.specs.Syntax.{rule, arguments, parentheses, negated, compared, comparison, negation, operand, named}
 use Rattle.reading.specs.Nests.{nest_made}
@@ -15,8 +18,9 @@ use Rattle.reading.proofs.Sequences.{begin, first, only, past_token, past_name, 
 use Rattle.expressions.specs.declared.layers.Layer.TheVariants as layer
 use Rattle.expressions.specs.Layers.{first_sign, other_signs, turn_gram, layer_gram, turn_made, compared_made_over}
 use Rattle.expressions.specs.Rules.{arguments_gram, arguments_made}
-use Rattle.expressions.proofs.Chains.{layer_item, layer_turns, compared_item, compared_turns, argument_item, argument_gram, argument_made, from_product, from_operand, from_negation, to_expression, to_sum, tighter_as, take_signs, layer_begins, layered_start, comparison_start, arguments_start, argument_read, arguments_rule, denial_ok, denial_stop}
+use Rattle.expressions.proofs.Chains.{layer_item, layer_turns, compared_item, compared_turns, argument_item, argument_gram, argument_made, from_product, from_operand, from_negation, to_expression, to_sum, tighter_as, take_signs, bare_by, of_variable_by, layer_begins, NoOperand, no_operand, signs_of_comparison, starts_of_compared, starts_of_expression, layered_start, comparison_start, arguments_start, argument_read, arguments_rule, denial_ok, denial_stop}
 use Rattle.expressions.proofs.operands.+group.Goals as goal
+use Rattle.expressions.proofs.operands.+group.Goals.{operand-in_default-via-in-Sign+in_default, operand-in_default-via-in-Word+in_default, operand-in_default-via-in_default}
 
 -- ---- layers
 
@@ -39,13 +43,13 @@ pub layered-returns-in_err-left-2 : goal.layered-returns-in_err-left-2
 layered-returns-in_err-left-2 t c =
     let l = c.args.layer in
     let w = c.loop-layer.invariant.0 _ _ (layered_start c.args.allowed l c.in_ok-left.ensures.reads) in
-    let begins = layer_begins l _ _ _ (stream_of c.loop-layer.reader) c.signs.ensures c.class.ensures c.among.ensures ∙ c.loop-layer-test.true in
+    let begins = layer_begins l c.signs.result.now c.class.result (stream_of c.loop-layer.reader) c.signs.ensures c.class.ensures c.contains.ensures.value c.loop-layer-test.true in
     exit_node of_node _ c.from_residual-in_err-left-2.ensures.1 (fails (layer_item l) w begins c.in_err-left-2.ensures.reads)
 
 pub layered-loop-layer-preserved : goal.layered-loop-layer-preserved
 layered-loop-layer-preserved t c =
     let l = c.args.layer in
-    let begins = layer_begins l _ _ _ (stream_of c.loop-layer.reader) c.signs.ensures c.class.ensures c.among.ensures ∙ c.loop-layer-test.true in
+    let begins = layer_begins l c.signs.result.now c.class.result (stream_of c.loop-layer.reader) c.signs.ensures c.class.ensures c.contains.ensures.value c.loop-layer-test.true in
     let told = c.in_ok-left-2.ensures in
     let below = c.loop-layer.invariant.1.1 in
     let more = told.last.1 in
@@ -56,7 +60,7 @@ layered-returns t c =
     let l = c.args.layer in
     let told = c.in_ok-left.ensures in
     let w = c.loop-layer.invariant.0 _ _ (layered_start c.args.allowed l told.reads) in
-    let stops = layer_begins l _ _ _ (stream_of c.loop-layer.reader) c.signs.ensures c.class.ensures c.among.ensures ∙ c.loop-layer-test.false in
+    let stops = layer_begins l c.signs.result.now c.class.result (stream_of c.loop-layer.reader) c.signs.ensures c.class.ensures c.contains.ensures.value c.loop-layer-test.false in
     let below = c.loop-layer.invariant.1.1 in
     let more = told.last.1 in
     record { reads = ends (layer_item l) w stops; last = (c.loop-layer.invariant.1.0, omega arith) }
@@ -78,17 +82,17 @@ operation-returns t c =
     let l = c.args.layer in
     let s = past_mark (first_sign l) (other_signs l) (begin c.args.allowed (turn_gram l) c.args.reader.now) (take_signs c.signs.ensures c.in_ok-sign.ensures) in
     let u = only s.more c.in_ok-right.ensures.reads in
-    node u.whole c.record.ensures (over_as _ _ c.over.ensures (c.operator_kind.ensures ∙ ap operator_kind s.number) s.place refl u.number refl) refl
+    node u.whole c.record.ensures (over_as c.operator_kind.result _ {p = c.in_ok-sign.sign.place} {f = c.args.left} {s = c.in_ok-right.right.number} {u = 0} (search rules) (c.operator_kind.ensures ∙ ap operator_kind s.number) s.place refl u.number refl) refl
 
 -- ---- negations and comparisons
 
-pub negation-returns-then-class-eq-NOT : goal.negation-returns-then-class-eq-NOT
+pub negation-returns-then-eq : goal.negation-returns-then-eq
 unfolding Tree negation_made nest_made inject inject_by left_tree
-negation-returns-then-class-eq-NOT t c = as_branch c.args.allowed 47 negation (negation_made (inner_made c.args.allowed)) (sym c.class.ensures ∙ c.if-class-eq-NOT.true) (λ x n. refl) c.denial.ensures
+negation-returns-then-eq t c = as_branch c.args.allowed 47 negation (negation_made (inner_made c.args.allowed)) (sym c.class.ensures ∙ class_is c.class.result (class.Sign mark.Not) c.eq.ensures c.if-eq.true) (λ x n. refl) c.denial.ensures
 
-pub negation-returns-else-class-eq-NOT : goal.negation-returns-else-class-eq-NOT
+pub negation-returns-else-eq : goal.negation-returns-else-eq
 unfolding Tree negation_made inject_last right_tree
-negation-returns-else-class-eq-NOT t c = as_last c.args.allowed negation (negation_made (inner_made c.args.allowed)) (none_of _ (47 ∷ []) ((λ e. c.if-class-eq-NOT.false (c.class.ensures ∙ e)), tt)) (λ x n. refl) c.comparison.ensures
+negation-returns-else-eq t c = as_last c.args.allowed negation (negation_made (inner_made c.args.allowed)) (none_of _ (47 ∷ []) ((λ e. class_is_not c.class.result (class.Sign mark.Not) c.eq.ensures c.if-eq.false (c.class.ensures ∙ e)), tt)) (λ x n. refl) c.comparison.ensures
 
 pub denial-returns-in_err-place : goal.denial-returns-in_err-place
 denial-returns-in_err-place t c = exit_node of_node _ c.from_residual.ensures.1 (not_opened c.args.allowed 47 negated c.in_err-place.ensures.takes)
@@ -101,7 +105,7 @@ denial-returns-in_err-inner t c =
 pub denial-returns : goal.denial-returns
 denial-returns t c =
     let o = c.in_ok-place.ensures in
-    denial_ok c.args.allowed o.allows o.takes c.in_ok-inner.ensures.reads c.record.ensures c.over.ensures
+    denial_ok c.args.allowed o.allows o.takes c.in_ok-inner.ensures.reads c.record.ensures (search rules)
 
 pub comparison-returns-in_err-left : goal.comparison-returns-in_err-left
 comparison-returns-in_err-left t c = exit_node of_node _ c.from_residual.ensures.1 (stop (begin c.args.allowed comparison c.args.reader.now) (to_sum c.args.allowed c.in_err-left.ensures).reads)
@@ -109,12 +113,12 @@ comparison-returns-in_err-left t c = exit_node of_node _ c.from_residual.ensures
 pub comparison-returns-in_err-left-2 : goal.comparison-returns-in_err-left-2
 comparison-returns-in_err-left-2 t c =
     let w = c.loop-reader.invariant.0 _ _ (comparison_start c.args.allowed (to_sum c.args.allowed c.in_ok-left.ensures).reads) in
-    let begins = ap (among (45 ∷ (46 ∷ (32 ∷ (25 ∷ []))))) (sym c.class.ensures) ∙ sym c.among.ensures ∙ c.loop-reader-test.true in
+    let begins = class_among starts_of_compared c.class.result c.class.ensures c.contains.ensures.value c.loop-reader-test.true in
     exit_node of_node _ c.from_residual-in_err-left-2.ensures.1 (fails compared_item w begins c.in_err-left-2.ensures.reads)
 
 pub comparison-loop-reader-preserved : goal.comparison-loop-reader-preserved
 comparison-loop-reader-preserved t c =
-    let begins = ap (among (45 ∷ (46 ∷ (32 ∷ (25 ∷ []))))) (sym c.class.ensures) ∙ sym c.among.ensures ∙ c.loop-reader-test.true in
+    let begins = class_among starts_of_compared c.class.result c.class.ensures c.contains.ensures.value c.loop-reader-test.true in
     let told = c.in_ok-left-2.ensures in
     let below = c.loop-reader.invariant.1.1 in
     let more = told.last.1 in
@@ -124,119 +128,114 @@ pub comparison-returns : goal.comparison-returns
 comparison-returns t c =
     let told = to_sum c.args.allowed c.in_ok-left.ensures in
     let w = c.loop-reader.invariant.0 _ _ (comparison_start c.args.allowed told.reads) in
-    let stops = ap (among (45 ∷ (46 ∷ (32 ∷ (25 ∷ []))))) (sym c.class.ensures) ∙ sym c.among.ensures ∙ c.loop-reader-test.false in
+    let stops = class_among starts_of_compared c.class.result c.class.ensures c.contains.ensures.value c.loop-reader-test.false in
     let below = c.loop-reader.invariant.1.1 in
     let more = told.last.1 in
     record { reads = ends compared_item w stops; last = (c.loop-reader.invariant.1.0, omega arith) }
 
 pub compared-returns-in_err-place : goal.compared-returns-in_err-place
 compared-returns-in_err-place t c =
-    let none = ap (among (45 ∷ (46 ∷ (32 ∷ [])))) (sym c.class.ensures) ∙ sym c.among.ensures ∙ c.if-not-among.true in
+    let none = class_among signs_of_comparison c.class.result c.class.ensures c.contains.ensures.value c.if-not-contains.true in
     exit_node of_node _ c.from_residual.ensures.1 (stop_token (on_last (begin c.args.allowed compared c.args.reader.now) none) c.in_err-place.ensures)
 
 pub compared-returns-in_err-right : goal.compared-returns-in_err-right
 compared-returns-in_err-right t c =
-    let none = ap (among (45 ∷ (46 ∷ (32 ∷ [])))) (sym c.class.ensures) ∙ sym c.among.ensures ∙ c.if-not-among.true in
+    let none = class_among signs_of_comparison c.class.result c.class.ensures c.contains.ensures.value c.if-not-contains.true in
     let s = past_token (on_last (begin c.args.allowed compared c.args.reader.now) none) c.in_ok-place.ensures in
     exit_node of_node _ c.from_residual-in_err-right.ensures.1 (stop_last s.more (as_leaf_lem c.args.allowed 51 c.in_err-right.ensures.reads))
 
-pub compared-returns-then-not-among : goal.compared-returns-then-not-among
+pub compared-returns-then-not-contains : goal.compared-returns-then-not-contains
 unfolding Tree compared_made_over pair leaf_made inject_last right_tree
-compared-returns-then-not-among t c =
-    let none = ap (among (45 ∷ (46 ∷ (32 ∷ [])))) (sym c.class.ensures) ∙ sym c.among.ensures ∙ c.if-not-among.true in
+compared-returns-then-not-contains t c =
+    let none = class_among signs_of_comparison c.class.result c.class.ensures c.contains.ensures.value c.if-not-contains.true in
     let s = past_token (on_last (begin c.args.allowed compared c.args.reader.now) none) c.in_ok-place.ensures in
     let u = only s.more (as_leaf_lem c.args.allowed 51 c.in_ok-right.ensures.reads) in
-    node u.whole c.record.ensures (over_is kind.In c.over.ensures s.place refl u.number refl) refl
+    node u.whole c.record.ensures (over_is kind.In {p = c.in_ok-place.place} {f = c.args.left} {s = c.in_ok-right.right.number} {u = 0} (search rules) s.place refl u.number refl) refl
 
 pub compared-returns-in_err-sign : goal.compared-returns-in_err-sign
 compared-returns-in_err-sign t c =
-    let some = ap (among (45 ∷ (46 ∷ (32 ∷ [])))) (sym c.class.ensures) ∙ sym c.among.ensures ∙ c.if-not-among.false in
+    let some = class_among signs_of_comparison c.class.result c.class.ensures c.contains.ensures.value c.if-not-contains.false in
     exit_node of_node _ c.from_residual-in_err-sign.ensures.1 (stop_mark 45 (46 ∷ (32 ∷ [])) (on_first (begin c.args.allowed compared c.args.reader.now) some) c.in_err-sign.ensures)
 
 pub compared-returns-in_err-right-2 : goal.compared-returns-in_err-right-2
 compared-returns-in_err-right-2 t c =
-    let some = ap (among (45 ∷ (46 ∷ (32 ∷ [])))) (sym c.class.ensures) ∙ sym c.among.ensures ∙ c.if-not-among.false in
+    let some = class_among signs_of_comparison c.class.result c.class.ensures c.contains.ensures.value c.if-not-contains.false in
     let s = past_mark 45 (46 ∷ (32 ∷ [])) (on_first (begin c.args.allowed compared c.args.reader.now) some) c.in_ok-sign.ensures in
     exit_node of_node _ c.from_residual-in_err-right-2.ensures.1 (stop_last s.more (to_sum c.args.allowed c.in_err-right-2.ensures).reads)
 
 pub compared-returns : goal.compared-returns
 unfolding Tree compared_made_over pair left_tree
 compared-returns t c =
-    let some = ap (among (45 ∷ (46 ∷ (32 ∷ [])))) (sym c.class.ensures) ∙ sym c.among.ensures ∙ c.if-not-among.false in
+    let some = class_among signs_of_comparison c.class.result c.class.ensures c.contains.ensures.value c.if-not-contains.false in
     let s = past_mark 45 (46 ∷ (32 ∷ [])) (on_first (begin c.args.allowed compared c.args.reader.now) some) c.in_ok-sign.ensures in
     let u = only s.more (to_sum c.args.allowed c.in_ok-right-2.ensures).reads in
-    node u.whole c.record-2.ensures (over_as _ _ c.over-2.ensures (c.operator_kind.ensures ∙ ap operator_kind s.number) s.place refl u.number refl) refl
+    node u.whole c.record-2.ensures (over_as c.operator_kind.result _ {p = c.in_ok-sign.sign.place} {f = c.args.left} {s = c.in_ok-right-2.right.number} {u = 0} (search rules) (c.operator_kind.ensures ∙ ap operator_kind s.number) s.place refl u.number refl) refl
 
 -- ---- operands
 
-pub operand-returns-in-52 : goal.operand-returns-in-52
+pub operand-returns-in-Number : goal.operand-returns-in-Number
 unfolding Tree operand_made inject inject_by left_tree right_tree
-operand-returns-in-52 t c = as_branch c.args.allowed 52 operand (operand_made (inner_made c.args.allowed)) (sym c.class.ensures ∙ c.in-52.is) (λ x n. refl) (c.number.ensures c.args.allowed)
+operand-returns-in-Number t c = as_branch c.args.allowed 52 operand (operand_made (inner_made c.args.allowed)) (sym c.in-Number.ensures) (λ x n. refl) (c.number.ensures c.args.allowed)
 
-pub operand-returns-in-41 : goal.operand-returns-in-41
+pub operand-returns-in-Sign-Minus : goal.operand-returns-in-Sign-Minus
 unfolding Tree operand_made inject inject_by left_tree right_tree
-operand-returns-in-41 t c = as_branch c.args.allowed 41 operand (operand_made (inner_made c.args.allowed)) (sym c.class.ensures ∙ c.in-41.is) (λ x n. refl) (c.number-in-41.ensures c.args.allowed)
+operand-returns-in-Sign-Minus t c = as_branch c.args.allowed 41 operand (operand_made (inner_made c.args.allowed)) (sym c.in-Sign-Minus.ensures ∙ ap sign_class c.in-Sign-Minus.field-0-is) (λ x n. refl) (c.number-in-Sign-Minus.ensures c.args.allowed)
 
-pub operand-returns-in-21 : goal.operand-returns-in-21
+pub operand-returns-in-Word-True : goal.operand-returns-in-Word-True
 unfolding Tree leaf_made operand_made inject inject_by left_tree right_tree
-operand-returns-in-21 t c = as_branch c.args.allowed 21 operand (operand_made (inner_made c.args.allowed)) (sym c.class.ensures ∙ c.in-21.is) (λ x n. refl) (build_leaf c.args.allowed 21 c.bare.ensures)
+operand-returns-in-Word-True t c = as_branch c.args.allowed 21 operand (operand_made (inner_made c.args.allowed)) (sym c.in-Word-True.ensures ∙ ap keyword_class c.in-Word-True.field-0-is) (λ x n. refl) (build_leaf c.args.allowed 21 (bare_by kind.True (ap keyword_class c.in-Word-True.field-0-is) c.bare.ensures))
 
-pub operand-returns-in-22 : goal.operand-returns-in-22
+pub operand-returns-in-Word-False : goal.operand-returns-in-Word-False
 unfolding Tree leaf_made operand_made inject inject_by left_tree right_tree
-operand-returns-in-22 t c = as_branch c.args.allowed 22 operand (operand_made (inner_made c.args.allowed)) (sym c.class.ensures ∙ c.in-22.is) (λ x n. refl) (build_leaf c.args.allowed 22 c.bare-in-22.ensures)
+operand-returns-in-Word-False t c = as_branch c.args.allowed 22 operand (operand_made (inner_made c.args.allowed)) (sym c.in-Word-False.ensures ∙ ap keyword_class c.in-Word-False.field-0-is) (λ x n. refl) (build_leaf c.args.allowed 22 (bare_by kind.False (ap keyword_class c.in-Word-False.field-0-is) c.bare-in-Word-False.ensures))
 
-pub operand-returns-in-51 : goal.operand-returns-in-51
+pub operand-returns-in-Name : goal.operand-returns-in-Name
 unfolding Tree operand_made inject inject_by left_tree right_tree
-operand-returns-in-51 t c = as_branch c.args.allowed 51 operand (operand_made (inner_made c.args.allowed)) (sym c.class.ensures ∙ c.in-51.is) (λ x n. refl) c.named.ensures
+operand-returns-in-Name t c = as_branch c.args.allowed 51 operand (operand_made (inner_made c.args.allowed)) (sym c.in-Name.ensures) (λ x n. refl) c.named.ensures
 
-pub operand-returns-in-23 : goal.operand-returns-in-23
+pub operand-returns-in-Word-Min : goal.operand-returns-in-Word-Min
 unfolding Tree of_variable_made operand_made inject inject_by left_tree right_tree
-operand-returns-in-23 t c = as_branch c.args.allowed 23 operand (operand_made (inner_made c.args.allowed)) (sym c.class.ensures ∙ c.in-23.is) (λ x n. refl) (c.of_variable.ensures c.args.allowed)
+operand-returns-in-Word-Min t c = as_branch c.args.allowed 23 operand (operand_made (inner_made c.args.allowed)) (sym c.in-Word-Min.ensures ∙ ap keyword_class c.in-Word-Min.field-0-is) (λ x n. refl) (of_variable_by c.args.allowed kind.Least (ap keyword_class c.in-Word-Min.field-0-is) (c.of_variable-in-Word-Min.ensures c.args.allowed))
 
-pub operand-returns-in-24 : goal.operand-returns-in-24
+pub operand-returns-in-Word-Max : goal.operand-returns-in-Word-Max
 unfolding Tree of_variable_made operand_made inject inject_by left_tree right_tree
-operand-returns-in-24 t c = as_branch c.args.allowed 24 operand (operand_made (inner_made c.args.allowed)) (sym c.class.ensures ∙ c.in-24.is) (λ x n. refl) (c.of_variable-in-24.ensures c.args.allowed)
+operand-returns-in-Word-Max t c = as_branch c.args.allowed 24 operand (operand_made (inner_made c.args.allowed)) (sym c.in-Word-Max.ensures ∙ ap keyword_class c.in-Word-Max.field-0-is) (λ x n. refl) (of_variable_by c.args.allowed kind.Greatest (ap keyword_class c.in-Word-Max.field-0-is) (c.of_variable-in-Word-Max.ensures c.args.allowed))
 
-pub operand-returns-in-44 : goal.operand-returns-in-44
+pub operand-returns-in-Sign-Count : goal.operand-returns-in-Sign-Count
 unfolding Tree of_variable_made operand_made inject inject_by left_tree right_tree
-operand-returns-in-44 t c = as_branch c.args.allowed 44 operand (operand_made (inner_made c.args.allowed)) (sym c.class.ensures ∙ c.in-44.is) (λ x n. refl) (c.of_variable-in-44.ensures c.args.allowed)
+operand-returns-in-Sign-Count t c = as_branch c.args.allowed 44 operand (operand_made (inner_made c.args.allowed)) (sym c.in-Sign-Count.ensures ∙ ap sign_class c.in-Sign-Count.field-0-is) (λ x n. refl) (of_variable_by c.args.allowed kind.Count (ap sign_class c.in-Sign-Count.field-0-is) (c.of_variable.ensures c.args.allowed))
 
 pub operand-returns-in_default : goal.operand-returns-in_default
 unfolding Tree operand_made nest_made inject_last right_tree
 operand-returns-in_default t c =
-    let no52 : c.class.result ≡ 52 → ⊥ = λ h. search rules in
-    let no41 : c.class.result ≡ 41 → ⊥ = λ h. search rules in
-    let no21 : c.class.result ≡ 21 → ⊥ = λ h. search rules in
-    let no22 : c.class.result ≡ 22 → ⊥ = λ h. search rules in
-    let no51 : c.class.result ≡ 51 → ⊥ = λ h. search rules in
-    let no23 : c.class.result ≡ 23 → ⊥ = λ h. search rules in
-    let no24 : c.class.result ≡ 24 → ⊥ = λ h. search rules in
-    let no44 : c.class.result ≡ 44 → ⊥ = λ h. search rules in
-    as_last c.args.allowed operand (operand_made (inner_made c.args.allowed))
-    (ap (among (52 ∷ (41 ∷ (21 ∷ (22 ∷ (51 ∷ (23 ∷ (24 ∷ (44 ∷ []))))))))) (sym c.class.ensures) ∙ none_of c.class.result (52 ∷ (41 ∷ (21 ∷ (22 ∷ (51 ∷ (23 ∷ (24 ∷ (44 ∷ [])))))))) (no52, (no41, (no21, (no22, (no51, (no23, (no24, (no44, tt)))))))))
-    (λ x n. refl) c.parentheses.ensures
+    let off : NoOperand c.class.result = elim c.in_default.branch [
+      | operand-in_default-via-in-Sign+in_default w ↦ record { number = w.in_default.not-Number; name = w.in_default.not-Name; minus = λ h. search rules; yes = λ h. search rules; not = λ h. search rules; least = λ h. search rules; greatest = λ h. search rules; count = λ h. search rules }
+      | operand-in_default-via-in-Word+in_default w ↦ record { number = w.in_default.not-Number; name = w.in_default.not-Name; minus = λ h. search rules; yes = λ h. search rules; not = λ h. search rules; least = λ h. search rules; greatest = λ h. search rules; count = λ h. search rules }
+      | operand-in_default-via-in_default w ↦ record { number = w.in_default.not-Number; name = w.in_default.not-Name; minus = λ h. search rules; yes = λ h. search rules; not = λ h. search rules; least = λ h. search rules; greatest = λ h. search rules; count = λ h. search rules }
+    ] in
+    as_last c.args.allowed operand (operand_made (inner_made c.args.allowed)) (no_operand c.class.result c.class.ensures off) (λ x n. refl) c.parentheses.ensures
 
 pub named-returns-in_err-name : goal.named-returns-in_err-name
 named-returns-in_err-name t c = exit_node of_node _ c.from_residual.ensures.1 (stop_token (begin c.args.allowed named c.args.reader.now) c.in_err-name.ensures)
 
-pub named-returns-then-class-ne-OPEN : goal.named-returns-then-class-ne-OPEN
+pub named-returns-then-ne : goal.named-returns-then-ne
 unfolding Tree named_made pair leaf_made inject_last right_tree nothing
-named-returns-then-class-ne-OPEN t c =
+named-returns-then-ne t c =
     let s = past_name (begin c.args.allowed named c.args.reader.now) c.in_ok-name.ensures in
-    let w = on_nil (on_last s.more (none_of _ (38 ∷ []) ((λ e. c.if-class-ne-OPEN.true (c.class.ensures ∙ e)), tt))) in
-    node w c.record.ensures (titled_is kind.Variable c.titled.ensures s.number s.place refl refl refl refl) refl
+    let w = on_nil (on_last s.more (none_of _ (38 ∷ []) ((λ e. class_differs c.class.result (class.Sign mark.Open) c.ne.ensures c.if-ne.true (c.class.ensures ∙ e)), tt))) in
+    node w c.record.ensures (titled_is kind.Variable c.node.ensures s.number s.place refl refl refl refl) refl
 
 pub named-returns-in_err-first : goal.named-returns-in_err-first
 named-returns-in_err-first t c =
     let s = past_name (begin c.args.allowed named c.args.reader.now) c.in_ok-name.ensures in
-    exit_node of_node _ c.from_residual-in_err-first.ensures.1 (stop_last (on_branch 38 s.more (sym c.class.ensures ∙ c.if-class-ne-OPEN.false)) c.in_err-first.ensures)
+    exit_node of_node _ c.from_residual-in_err-first.ensures.1 (stop_last (on_branch 38 s.more (sym c.class.ensures ∙ class_same c.class.result (class.Sign mark.Open) c.ne.ensures c.if-ne.false)) c.in_err-first.ensures)
 
 pub named-returns : goal.named-returns
 unfolding Tree named_made nest_made pair leaf_made inject inject_by left_tree
 named-returns t c =
     let s = past_name (begin c.args.allowed named c.args.reader.now) c.in_ok-name.ensures in
-    let u = only (on_branch 38 s.more (sym c.class.ensures ∙ c.if-class-ne-OPEN.false)) c.in_ok-first.ensures in
-    node u.whole c.record-2.ensures (titled_is kind.Call c.titled-2.ensures s.number s.place u.number refl refl refl) refl
+    let u = only (on_branch 38 s.more (sym c.class.ensures ∙ class_same c.class.result (class.Sign mark.Open) c.ne.ensures c.if-ne.false)) c.in_ok-first.ensures in
+    node u.whole c.record-2.ensures (titled_is kind.Call {l = c.in_ok-name.name.length} {p = c.in_ok-name.name.place} {f = c.in_ok-first.first} {s = 0} {u = 0} {w = 0} (search rules) s.number s.place u.number refl refl refl) refl
 
 -- ---- arguments
 
@@ -263,36 +262,36 @@ closed_arguments-returns t c = λ p.
     let u = closed_token s.more c.in_ok-take.ensures in
     pass u.whole ((λ i. record { nodes = (arguments_made c.args.allowed s.tree a.count).nodes; number = s.number i; place = s.place i }) ∙ arguments_rule c.args.allowed p a.count s.tree u.tree)
 
-pub expressions-returns-then-not-among : goal.expressions-returns-then-not-among
+pub expressions-returns-then-not-contains : goal.expressions-returns-then-not-contains
 unfolding Tree arguments_made inject_last right_tree nothing
-expressions-returns-then-not-among t c =
-    let none = ap (among (47 ∷ (52 ∷ (41 ∷ (21 ∷ (22 ∷ (51 ∷ (23 ∷ (24 ∷ (44 ∷ (38 ∷ []))))))))))) (sym c.class.ensures) ∙ sym c.among.ensures ∙ c.if-not-among.true in
+expressions-returns-then-not-contains t c =
+    let none = class_among starts_of_expression c.class.result c.class.ensures c.contains.ensures.value c.if-not-contains.true in
     pass (on_nil (on_last (begin c.args.allowed arguments_gram c.args.reader.now) none)) refl
 
 pub expressions-returns-in_err-first : goal.expressions-returns-in_err-first
 expressions-returns-in_err-first t c =
-    let some = ap (among (47 ∷ (52 ∷ (41 ∷ (21 ∷ (22 ∷ (51 ∷ (23 ∷ (24 ∷ (44 ∷ (38 ∷ []))))))))))) (sym c.class.ensures) ∙ sym c.among.ensures ∙ c.if-not-among.false in
+    let some = class_among starts_of_expression c.class.result c.class.ensures c.contains.ensures.value c.if-not-contains.false in
     exit of_list _ c.from_residual.ensures.1 (stop (on_first (begin c.args.allowed arguments_gram c.args.reader.now) some) c.in_err-first.ensures.reads)
 
 pub expressions-returns-in_err-take : goal.expressions-returns-in_err-take
 expressions-returns-in_err-take t c =
-    let some = ap (among (47 ∷ (52 ∷ (41 ∷ (21 ∷ (22 ∷ (51 ∷ (23 ∷ (24 ∷ (44 ∷ (38 ∷ []))))))))))) (sym c.class.ensures) ∙ sym c.among.ensures ∙ c.if-not-among.false in
+    let some = class_among starts_of_expression c.class.result c.class.ensures c.contains.ensures.value c.if-not-contains.false in
     let w = c.loop-reader.invariant _ _ (arguments_start c.args.allowed some c.in_ok-first.ensures) in
-    let comma = ap (among (37 ∷ [])) (sym c.class-in-loop-reader.ensures ∙ c.loop-reader-test.true) in
+    let comma = ap (among (37 ∷ [])) (sym c.class-in-loop-reader.ensures ∙ class_is c.class-in-loop-reader.result (class.Sign mark.Comma) c.eq.ensures c.loop-reader-test.true) in
     exit of_list _ c.from_residual-in_err-take.ensures.1 (fails argument_item w.going comma (stop_token {out = argument_made c.args.allowed} (begin c.args.allowed argument_gram c.loop-reader.reader) c.in_err-take.ensures))
 
 pub expressions-returns-in_err-next : goal.expressions-returns-in_err-next
 expressions-returns-in_err-next t c =
-    let some = ap (among (47 ∷ (52 ∷ (41 ∷ (21 ∷ (22 ∷ (51 ∷ (23 ∷ (24 ∷ (44 ∷ (38 ∷ []))))))))))) (sym c.class.ensures) ∙ sym c.among.ensures ∙ c.if-not-among.false in
+    let some = class_among starts_of_expression c.class.result c.class.ensures c.contains.ensures.value c.if-not-contains.false in
     let w = c.loop-reader.invariant _ _ (arguments_start c.args.allowed some c.in_ok-first.ensures) in
-    let comma = ap (among (37 ∷ [])) (sym c.class-in-loop-reader.ensures ∙ c.loop-reader-test.true) in
+    let comma = ap (among (37 ∷ [])) (sym c.class-in-loop-reader.ensures ∙ class_is c.class-in-loop-reader.result (class.Sign mark.Comma) c.eq.ensures c.loop-reader-test.true) in
     let s = past_token (begin c.args.allowed argument_gram c.loop-reader.reader) c.in_ok-take.ensures in
     exit of_list _ c.from_residual-in_err-next.ensures.1 (fails argument_item w.going comma (stop_last {out = argument_made c.args.allowed} s.more c.in_err-next.ensures.reads))
 
 pub expressions-loop-reader-preserved : goal.expressions-loop-reader-preserved
 expressions-loop-reader-preserved t c = λ R a w.
     let g = c.loop-reader.invariant R a w in
-    let comma = ap (among (37 ∷ [])) (sym c.class-in-loop-reader.ensures ∙ c.loop-reader-test.true) in
+    let comma = ap (among (37 ∷ [])) (sym c.class-in-loop-reader.ensures ∙ class_is c.class-in-loop-reader.result (class.Sign mark.Comma) c.eq.ensures c.loop-reader-test.true) in
     let taken = c.in_ok-take.ensures in
     let told = c.in_ok-next.ensures in
     let kept = taken.steps.0 in
@@ -301,9 +300,9 @@ expressions-loop-reader-preserved t c = λ R a w.
 
 pub expressions-returns : goal.expressions-returns
 expressions-returns t c =
-    let some = ap (among (47 ∷ (52 ∷ (41 ∷ (21 ∷ (22 ∷ (51 ∷ (23 ∷ (24 ∷ (44 ∷ (38 ∷ []))))))))))) (sym c.class.ensures) ∙ sym c.among.ensures ∙ c.if-not-among.false in
+    let some = class_among starts_of_expression c.class.result c.class.ensures c.contains.ensures.value c.if-not-contains.false in
     let w = c.loop-reader.invariant _ _ (arguments_start c.args.allowed some c.in_ok-first.ensures) in
-    ends argument_item w.going (none_of _ (37 ∷ []) ((λ e. c.loop-reader-test.false (c.class-in-loop-reader.ensures ∙ e)), tt))
+    ends argument_item w.going (none_of _ (37 ∷ []) ((λ e. class_is_not c.class-in-loop-reader.result (class.Sign mark.Comma) c.eq.ensures c.loop-reader-test.false (c.class-in-loop-reader.ensures ∙ e)), tt))
 
 -- ---- parentheses
 
