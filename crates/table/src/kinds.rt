@@ -2,43 +2,43 @@
 ghost use Rattle.std.specs.Prelude.{◌≡◌};
 ghost use Rattle.table.specs.Numbers.{kind_number, type_number};
 
-/// What a node is.
-#[derive(Clone, Copy)]
+/// What a node is, by its number in a record.
+#[derive(Clone, Copy, PartialEq, Eq, Debug)]
 pub enum Kind {
-    Number,
-    True,
-    False,
-    Variable,
-    Call,
-    Plus,
-    Minus,
-    Times,
-    Divide,
-    Equal,
-    Less,
-    AtMost,
-    And,
-    Or,
-    Not,
-    In,
-    Least,
-    Greatest,
-    Count,
-    Empty,
-    Expression,
-    Assign,
-    If,
-    While,
-    Read,
-    Write,
-    Add,
-    Remove,
-    Return,
-    Declared,
-    Parameter,
-    Function,
-    Forward,
-    Program,
+    Number = 1,
+    True = 2,
+    False = 3,
+    Variable = 4,
+    Call = 5,
+    Plus = 6,
+    Minus = 7,
+    Times = 8,
+    Divide = 9,
+    Equal = 10,
+    Less = 11,
+    AtMost = 12,
+    And = 13,
+    Or = 14,
+    Not = 15,
+    In = 16,
+    Least = 17,
+    Greatest = 18,
+    Count = 19,
+    Empty = 20,
+    Expression = 21,
+    Assign = 22,
+    If = 23,
+    While = 24,
+    Read = 25,
+    Write = 26,
+    Add = 27,
+    Remove = 28,
+    Return = 29,
+    Declared = 30,
+    Parameter = 31,
+    Function = 32,
+    Forward = 33,
+    Program = 34,
 }
 
 impl Kind {
@@ -46,52 +46,17 @@ impl Kind {
     pub fn number(self) -> u8
         ensures { result ≡ kind_number self }
     {
-        match self {
-            Kind::Number => 1,
-            Kind::True => 2,
-            Kind::False => 3,
-            Kind::Variable => 4,
-            Kind::Call => 5,
-            Kind::Plus => 6,
-            Kind::Minus => 7,
-            Kind::Times => 8,
-            Kind::Divide => 9,
-            Kind::Equal => 10,
-            Kind::Less => 11,
-            Kind::AtMost => 12,
-            Kind::And => 13,
-            Kind::Or => 14,
-            Kind::Not => 15,
-            Kind::In => 16,
-            Kind::Least => 17,
-            Kind::Greatest => 18,
-            Kind::Count => 19,
-            Kind::Empty => 20,
-            Kind::Expression => 21,
-            Kind::Assign => 22,
-            Kind::If => 23,
-            Kind::While => 24,
-            Kind::Read => 25,
-            Kind::Write => 26,
-            Kind::Add => 27,
-            Kind::Remove => 28,
-            Kind::Return => 29,
-            Kind::Declared => 30,
-            Kind::Parameter => 31,
-            Kind::Function => 32,
-            Kind::Forward => 33,
-            Kind::Program => 34,
-        }
+        self as u8
     }
 }
 
-/// The type of a variable, a parameter or a result.
-#[derive(Clone, Copy)]
+/// The type of a variable, a parameter or a result, by its number in a record.
+#[derive(Clone, Copy, PartialEq, Eq, Debug)]
 pub enum DataType {
-    Integer,
-    Truth,
-    IntegerSet,
-    Void,
+    Integer = 1,
+    Truth = 2,
+    IntegerSet = 3,
+    Void = 4,
 }
 
 impl DataType {
@@ -99,11 +64,6 @@ impl DataType {
     pub fn number(self) -> u8
         ensures { result ≡ type_number self }
     {
-        match self {
-            DataType::Integer => 1,
-            DataType::Truth => 2,
-            DataType::IntegerSet => 3,
-            DataType::Void => 4,
-        }
+        self as u8
     }
 }

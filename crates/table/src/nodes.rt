@@ -11,7 +11,7 @@ pub const FEWEST_RECORDS: usize = 2;
 pub const MOST_RECORDS: usize = 4_096;
 
 /// One record. Fields that its kind does not use are zero.
-#[derive(Clone, Copy)]
+#[derive(Clone, Copy, PartialEq, Eq, Debug, Default)]
 pub struct Node {
     pub kind: u8,
     /// The bytes of its name, if it has one.
@@ -31,16 +31,7 @@ impl Node {
     pub fn zero() -> Node
         ensures { result ≡ zero }
     {
-        Node {
-            kind: 0,
-            length: 0,
-            first: 0,
-            second: 0,
-            third: 0,
-            next: 0,
-            place: 0,
-            value: 0,
-        }
+        Node::default()
     }
 
     /// A node with a kind and a place alone.
