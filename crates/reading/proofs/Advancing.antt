@@ -64,7 +64,3 @@ next_place text i j n h (Next.takes rest k) =
     let more = length-append k.bytes rest in
     let d = length-drop i text in
     (omega arith, omega arith, omega arith, (λ z. omega arith))
-
--- a fault stands no earlier
-pub refused_place : (text : List ℕ) (i j : ℕ) (f : Placed LexFault) → Next i (drop i text) (Err f) j → i ≤ j
-refused_place text i j f (Next.refuses k) = let place = k.place in omega arith

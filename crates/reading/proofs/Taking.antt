@@ -12,9 +12,8 @@ use Rattle.grammar.specs.Streams.{Stream, Refusal, from}
 use Rattle.grammar.specs.TokenClasses.{class_of, is_class}
 use Rattle.grammar.proofs.Inversions.{never_ok, passed_on}
 use Rattle.reading.specs.declared.readers.Reader.{Reader}
-use Rattle.reading.specs.States.{stream_by, stream_of, IsAhead, state_of, Lends, applied, written, Reads, Takes}
-use Rattle.reading.specs.Steps.{tail_of, front_of, misfit_of, taken, opened, token_made, name_made}
-use Rattle.reading.proofs.Sequences.{refused}
+use Rattle.reading.specs.States.{stream_by, stream_of, IsAhead, state_of, Lends, applied, written, Takes}
+use Rattle.reading.specs.Steps.{tail_of, front_of, misfit_of, taken, opened, token_made}
 
 -- the class of the token ahead is that of the stream
 pub front_class_lem : (t : Lexeme) (p : ℕ) (l : Lexing) → front_of (stream_by t p l) ≡ class_of t
@@ -85,13 +84,6 @@ not_taken c a m n =
     let read = taken_not (lexeme a.token) a.place _ c (λ h e. n (h, e)) ∙ ap Err (sym m) in
     record { reads = record { lends = refl; goes = tt; reads = sym (ap (written (token_made c) (state_of a)) read) }; steps = tt }
 
--- the token ahead is of the class, and a fault comes after it
-pub took_not : (c : ℕ) (a b : Reader) {f : Refusal} → IsAhead c a → Lends a b → Err f ≡ tail_of (stream_of a) → Reads (token_made c) (taken c (stream_of a)) a (Err f) b
-took_not c a b is l s =
-    let k = taken_here (lexeme a.token) a.place _ c is.0 is.1 in
-    let read = k.taken_as ∙ ap (passed (at (lexeme a.token) a.place, k.class)) (sym s) in
-    record { lends = l; goes = tt; reads = sym (ap (written (token_made c) (state_of a)) read) }
-
 -- ---- where no more constructs may be open
 
 closed_not : (t : Lexeme) (p : ℕ) (l : Lexing) (c : ℕ) → (is_end t ≡ false → class_of t ≡ c → ⊥) → opened 0 c (stream_by t p l) ≡ Err (misfit_of (stream_by t p l))
@@ -104,20 +96,12 @@ closed_not t p l c n = go (is_end t) refl
         ap (λ b. cond b (Err (at TooDeep p)) (taken c (record { tokens = at t p ∷ l.tokens; verdict = l.verdict }))) differs
         ∙ refused_by c (at t p) l.tokens l.verdict (is_class c (at t p)) refl differs
 
-closed_here : (t : Lexeme) (p : ℕ) (l : Lexing) (c : ℕ) → is_end t ≡ false → class_of t ≡ c → opened 0 c (stream_by t p l) ≡ Err (at TooDeep p)
-closed_here t p l c h e =
-    ap (opened 0 c) (streamed t p l h)
-    ∙ ap (λ b. cond b (Err (at TooDeep p)) (taken c (record { tokens = at t p ∷ l.tokens; verdict = l.verdict }))) (eq-eqb (class_of t) c e)
-
-shut : (d c : ℕ) (a : Reader) {f : Refusal} → d ≤ 0 → opened 0 c (stream_of a) ≡ Err f → Takes (token_made c) (opened d c (stream_of a)) a (Err f) a
-shut zero c a h read = record { reads = record { lends = refl; goes = tt; reads = sym (ap (written (token_made c) (state_of a)) read) }; steps = tt }
-shut (suc d) c a h read = absurd (omega arith)
-
+-- a token that would open a construct is not there, and none may be opened
 pub shut_misfit : (d c : ℕ) (a : Reader) {f : Refusal} → d ≤ 0 → f ≡ misfit_of (stream_of a) → (IsAhead c a → ⊥) → Takes (token_made c) (opened d c (stream_of a)) a (Err f) a
-shut_misfit d c a h m n = shut d c a h (closed_not (lexeme a.token) a.place _ c (λ i e. n (i, e)) ∙ ap Err (sym m))
-
-pub shut_deep : (d c : ℕ) (a : Reader) {p : ℕ} → d ≤ 0 → p ≡ a.place → IsAhead c a → Takes (token_made c) (opened d c (stream_of a)) a (Err (at TooDeep p)) a
-shut_deep d c a h e is = shut d c a h (closed_here (lexeme a.token) a.place _ c is.0 is.1 ∙ ap (λ q. Err (at TooDeep q)) (sym e))
+shut_misfit zero c a h m n =
+    let read = closed_not (lexeme a.token) a.place _ c (λ i e. n (i, e)) ∙ ap Err (sym m) in
+    record { reads = record { lends = refl; goes = tt; reads = sym (ap (written (token_made c) (state_of a)) read) }; steps = tt }
+shut_misfit (suc d) c a h m n = absurd (omega arith)
 
 -- ---- two tokens ahead
 
@@ -172,6 +156,3 @@ two_not c e t p l n = go (is_end t) refl
     go : (b : Bool) → is_end t ≡ b → two c e (cond {A = Stream} b (record { tokens = []; verdict = Ok p }) (record { tokens = at t p ∷ l.tokens; verdict = l.verdict })).tokens ≡ false
     go true k = refl
     go false k = by l.tokens (ne_eqb (class_of t) c (n k))
-
-pub name_refused : (a b : Reader) (f : Refusal) → Takes (token_made 51) (taken 51 (stream_of a)) a (Err f) b → Reads name_made (taken 51 (stream_of a)) a (Err f) b
-name_refused a b f t = record { lends = t.reads.lends; goes = tt; reads = sym (ap (written name_made (state_of a)) (refused t.reads)) }

@@ -3,12 +3,10 @@ use Rattle.std.proofs.Common.{◌≡◌, ℕ, zero, suc, ◌≤◌, Bool, true, 
 use Rattle.std.proofs.lemmas.Int.{to_z-of_z, to_z_pos}
 use Rattle.std.proofs.lemmas.Bool.{leb-true, eqb-true}
 use Rattle.text.specs.declared.places.Placed.{Placed}
-use Rattle.text.specs.declared.tokens.LexFault.TheVariants.{NumberTooLarge}
 use Rattle.text.specs.declared.tokens.Token.TheVariants as token
 use Rattle.text.specs.Lexings.{Lexing}
 use Rattle.text.specs.Steps.{at}
 use Rattle.text.specs.Tokens.{Lexeme, lexeme, is_end, Verdict}
-use Rattle.grammar.specs.declared.faults.GrammarFault.TheVariants.{Lexical, Misfit}
 use Rattle.grammar.specs.Grammars.{joint, Of, OneOf, Tree, TreeAt}
 use Rattle.grammar.specs.Parsers.{Read, passed, take_by, take_joint_by, second, second_by, misfit, parse, parse_at}
 use Rattle.grammar.specs.Streams.{Stream, Refusal, from}
@@ -19,7 +17,7 @@ use Rattle.syntax.specs.Syntax.{rule}
 use Rattle.reading.specs.declared.readers.Reader.{Reader}
 use Rattle.reading.specs.Sizes.{size, most}
 use Rattle.reading.specs.States.{stream_by, stream_of, state_of, Answer, written, Reads, Takes, Builds}
-use Rattle.reading.specs.Steps.{taken, any_taken, jointly, blamed, token_made, mark_made, negative_made}
+use Rattle.reading.specs.Steps.{taken, any_taken, jointly, token_made, mark_made, negative_made}
 use Rattle.reading.proofs.Sequences.{got, refused, Silent, silent_token, Whole, start, token_on}
 
 -- a number of the class of those that stand alone
@@ -62,30 +60,6 @@ any_is cs t p l u s = go (is_end t)
 
 abbrev signed : List ℕ
 signed = 52 ∷ (53 ∷ [])
-
--- a fault after the `-`
-blamed_from : (x : Of 41) (ts : List (Placed Lexeme)) (v : Verdict) (f : Refusal) → passed x (from ts v) ≡ Err f → second 41 signed x ts v ≡ Err (blamed x.0.place f)
-blamed_from x [] (Ok p) f e = absurd (never_ok _ _ (sym e))
-blamed_from x (t ∷ ts) v f e = absurd (never_ok _ _ (sym e))
-blamed_from x [] (Err g) f e = let z : ◌≡◌ {A = Refusal} (at (Lexical g.item) g.place) f = cc in ap (λ r. Err (blamed x.0.place r)) z
-
-misfit_blamed : (t : Placed Lexeme) (ts : List (Placed Lexeme)) (v : Verdict) → misfit (t ∷ ts) v ≡ blamed t.place (misfit (t ∷ ts) v)
-misfit_blamed t ts v = go (eqb (class_of t.item) 53)
-  where
-    go : (b : Bool) → at (cond b (Lexical NumberTooLarge) Misfit) t.place ≡ blamed t.place (at (cond b (Lexical NumberTooLarge) Misfit) t.place)
-    go true = refl
-    go false = refl
-
-joint_by : (t : Placed Lexeme) (ts : List (Placed Lexeme)) (v : Verdict) (b : Bool) (e : is_class 41 t ≡ b) (f : Refusal) → take_by 41 t ts v b e ≡ Err f → take_joint_by 41 signed t ts v b e ≡ Err (blamed t.place f)
-joint_by t ts v true e f q = blamed_from (t, e) ts v f q
-joint_by t ts v false e f q = let z : ◌≡◌ {A = Refusal} (misfit (t ∷ ts) v) f = cc in ap Err (misfit_blamed t ts v) ∙ ap (λ r. Err (blamed t.place r)) z
-
-pub joint_refused : (t : Lexeme) (p : ℕ) (l : Lexing) (f : Refusal) → taken 41 (stream_by t p l) ≡ Err f → jointly (stream_by t p l) ≡ Err (blamed p f)
-joint_refused t p l f = go (is_end t)
-  where
-    go : (b : Bool) → taken 41 (cond b (record { tokens = []; verdict = Ok p }) (record { tokens = at t p ∷ l.tokens; verdict = l.verdict })) ≡ Err f → jointly (cond b (record { tokens = []; verdict = Ok p }) (record { tokens = at t p ∷ l.tokens; verdict = l.verdict })) ≡ Err (blamed p f)
-    go true q = let z : ◌≡◌ {A = Refusal} (at Misfit p) f = cc in ap (λ r. Err (blamed p r)) z
-    go false q = joint_by (at t p) l.tokens l.verdict (is_class 41 (at t p)) refl f q
 
 -- a number after the `-`
 pub Both : Of 41 → Placed Lexeme → Stream → Read (Of 41 × OneOf (52 ∷ (53 ∷ []))) → Type 0

@@ -1,19 +1,10 @@
-use Rattle.std.proofs.Common.{◌≡◌, ◌≤◌, Ok, Err, sym, refl, ap, ◌∙◌, subst, rules}
+use Rattle.std.proofs.Common.{◌≡◌, ◌≤◌, Ok, refl, ap, ◌∙◌, subst, rules}
 use Rattle.text.specs.Tokens.{lexeme}
-use Rattle.grammar.specs.Streams.{Refusal}
 use Rattle.syntax.specs.Nodes.{minus}
 use Rattle.reading.specs.States.{of_place, of_node}
-use Rattle.reading.specs.Steps.{blamed}
-use Rattle.reading.proofs.Sequences.{as_result, exit_node, refuse_as, refused, node, valued_is}
-use Rattle.reading.proofs.Values.{joint_refused, joined, not_joined, negative_value, magnitude_fits}
+use Rattle.reading.proofs.Sequences.{as_result, exit_node, node, valued_is}
+use Rattle.reading.proofs.Values.{joined, not_joined, negative_value, magnitude_fits}
 use Rattle.reading.proofs.readers.Reader.negative.Goals as goal
-
-pub returns-in_err-place : goal.returns-in_err-place
-returns-in_err-place c =
-    let self = c.args.self.now in
-    let told : (f : Refusal) × (c.take.result ≡ Err f) × (c.in_err-place.field-0.0 ≡ blamed self.place f) = search rules in
-    let takes = as_result of_place told.1 c.take.ensures in
-    exit_node of_node _ c.from_residual.ensures.1 (refuse_as takes.reads (joint_refused (lexeme self.token) self.place _ told.0 (refused takes.reads) ∙ ap Err (sym told.2)))
 
 pub returns-in_err-one_of : goal.returns-in_err-one_of
 returns-in_err-one_of c =

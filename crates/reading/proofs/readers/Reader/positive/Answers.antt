@@ -3,13 +3,9 @@ use Rattle.grammar.specs.TokenClasses.{class_of}
 use Rattle.text.specs.declared.places.Placed.{Placed}
 use Rattle.text.specs.Tokens.{Lexeme, lexeme}
 use Rattle.syntax.specs.Nodes.{magnitude}
-use Rattle.reading.specs.States.{of_node}
-use Rattle.reading.proofs.Sequences.{exit_node, refused_as, single, silent_token, node, valued_is}
+use Rattle.reading.proofs.Sequences.{single, silent_token, node, valued_is}
 use Rattle.reading.proofs.Values.{token_is, positive_value}
 use Rattle.reading.proofs.readers.Reader.positive.Goals as goal
-
-pub returns-in_err-place : goal.returns-in_err-place
-returns-in_err-place c = exit_node of_node _ c.from_residual.ensures.1 (refused_as c.in_err-place.ensures)
 
 pub returns : goal.returns
 returns c =

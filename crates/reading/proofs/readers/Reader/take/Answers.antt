@@ -1,17 +1,10 @@
 use Rattle.std.proofs.lemmas.Bool.Decides.{not_from_Decides}
 use Rattle.grammar.specs.TokenClasses.{class_number}
-use Rattle.reading.specs.States.{of_place}
-use Rattle.reading.proofs.Sequences.{exit_token}
-use Rattle.reading.proofs.Taking.{took, took_not, not_taken}
+use Rattle.reading.proofs.Taking.{took, not_taken}
 use Rattle.reading.proofs.readers.Reader.take.Goals as goal
 
 pub returns-then-not-is_ahead : goal.returns-then-not-is_ahead
 returns-then-not-is_ahead c = not_taken (class_number c.args.class) c.args.self.now c.misfit.ensures (not_from_Decides _ c.is_ahead.ensures c.if-not-is_ahead.true)
-
-pub returns-in_err-advance : goal.returns-in_err-advance
-returns-in_err-advance c =
-    let told = c.in_err-advance.ensures in
-    exit_token of_place _ c.from_residual.ensures.1 (took_not (class_number c.args.class) c.args.self.now c.advance.new.self (c.is_ahead.ensures.0 c.if-not-is_ahead.false) told.lends told.stream)
 
 pub returns : goal.returns
 returns c =
