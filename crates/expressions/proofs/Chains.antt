@@ -155,8 +155,8 @@ starts_of_expression =
 pub record NoOperand (c : TokenClass) : Type 0 where
   pub number : c ≡ class.Number → ⊥
   pub minus : c ≡ class.Sign mark.Minus → ⊥
-  pub yes : c ≡ class.Word word.True → ⊥
-  pub not : c ≡ class.Word word.False → ⊥
+  pub true_word : c ≡ class.Word word.True → ⊥
+  pub false_word : c ≡ class.Word word.False → ⊥
   pub name : c ≡ class.Name → ⊥
   pub least : c ≡ class.Word word.Min → ⊥
   pub greatest : c ≡ class.Word word.Max → ⊥
@@ -166,7 +166,7 @@ pub no_operand : (c : TokenClass) {n : ℕ} → class_number c ≡ n → NoOpera
 no_operand c is off =
     ap (among (52 ∷ (41 ∷ (21 ∷ (22 ∷ (51 ∷ (23 ∷ (24 ∷ (44 ∷ []))))))))) (sym is)
     ∙ none_of (class_number c) (52 ∷ (41 ∷ (21 ∷ (22 ∷ (51 ∷ (23 ∷ (24 ∷ (44 ∷ []))))))))
-    ((λ e. off.number (class_one c class.Number e)), ((λ e. off.minus (class_one c (class.Sign mark.Minus) e)), ((λ e. off.yes (class_one c (class.Word word.True) e)), ((λ e. off.not (class_one c (class.Word word.False) e)), ((λ e. off.name (class_one c class.Name e)), ((λ e. off.least (class_one c (class.Word word.Min) e)), ((λ e. off.greatest (class_one c (class.Word word.Max) e)), ((λ e. off.count (class_one c (class.Sign mark.Count) e)), tt))))))))
+    ((λ e. off.number (class_one c class.Number e)), ((λ e. off.minus (class_one c (class.Sign mark.Minus) e)), ((λ e. off.true_word (class_one c (class.Word word.True) e)), ((λ e. off.false_word (class_one c (class.Word word.False) e)), ((λ e. off.name (class_one c class.Name e)), ((λ e. off.least (class_one c (class.Word word.Min) e)), ((λ e. off.greatest (class_one c (class.Word word.Max) e)), ((λ e. off.count (class_one c (class.Sign mark.Count) e)), tt))))))))
 
 -- ---- the first turn
 

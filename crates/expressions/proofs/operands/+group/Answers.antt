@@ -208,11 +208,7 @@ operand-returns-in-Sign-Count t c = as_branch c.args.allowed 44 operand (operand
 pub operand-returns-in_default : goal.operand-returns-in_default
 unfolding Tree operand_made nest_made inject_last right_tree
 operand-returns-in_default t c =
-    let off : NoOperand c.class.result = elim c.in_default.branch [
-      | operand-in_default-via-in-Sign+in_default w ↦ record { number = w.in_default.not-Number; name = w.in_default.not-Name; minus = λ h. search rules; yes = λ h. search rules; not = λ h. search rules; least = λ h. search rules; greatest = λ h. search rules; count = λ h. search rules }
-      | operand-in_default-via-in-Word+in_default w ↦ record { number = w.in_default.not-Number; name = w.in_default.not-Name; minus = λ h. search rules; yes = λ h. search rules; not = λ h. search rules; least = λ h. search rules; greatest = λ h. search rules; count = λ h. search rules }
-      | operand-in_default-via-in_default w ↦ record { number = w.in_default.not-Number; name = w.in_default.not-Name; minus = λ h. search rules; yes = λ h. search rules; not = λ h. search rules; least = λ h. search rules; greatest = λ h. search rules; count = λ h. search rules }
-    ] in
+    let off : NoOperand c.class.result = search rules in
     as_last c.args.allowed operand (operand_made (inner_made c.args.allowed)) (no_operand c.class.result c.class.ensures off) (λ x n. refl) c.parentheses.ensures
 
 pub named-returns-in_err-name : goal.named-returns-in_err-name
