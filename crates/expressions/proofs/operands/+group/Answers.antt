@@ -20,7 +20,6 @@ use Rattle.expressions.specs.Layers.{first_sign, other_signs, turn_gram, layer_g
 use Rattle.expressions.specs.Rules.{arguments_gram, arguments_made}
 use Rattle.expressions.proofs.Chains.{layer_item, layer_turns, compared_item, compared_turns, argument_item, argument_gram, argument_made, from_product, from_operand, from_negation, to_expression, to_sum, tighter_as, take_signs, bare_by, of_variable_by, layer_begins, NoOperand, no_operand, signs_of_comparison, starts_of_compared, starts_of_expression, layered_start, comparison_start, arguments_start, argument_read, arguments_rule, denial_ok, denial_stop}
 use Rattle.expressions.proofs.operands.+group.Goals as goal
-use Rattle.expressions.proofs.operands.+group.Goals.{operand-in_default-via-in-Sign+in_default, operand-in_default-via-in-Word+in_default, operand-in_default-via-in_default}
 
 -- ---- layers
 
