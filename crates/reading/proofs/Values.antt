@@ -1,8 +1,10 @@
 -- Numbers: their values, and a `-` that belongs to one.
 use Rattle.std.proofs.Common.{◌≡◌, ℕ, zero, suc, ◌≤◌, Bool, true, false, cond, eqb, leb, List, [], ◌∷◌, ℤ, pos, Ok, Err, Result, sym, refl, ap, ◌∙◌, subst, arith, w32, SFits, to_z, of_z}
+use Rattle.std.specs.Borrow.{Bor}
 use Rattle.std.proofs.lemmas.Int.{to_z-of_z, to_z_pos}
 use Rattle.std.proofs.lemmas.Bool.{leb-true, eqb-true}
 use Rattle.text.specs.declared.places.Placed.{Placed}
+use Rattle.text.specs.declared.tokens.Token.{Token}
 use Rattle.text.specs.declared.tokens.Token.TheVariants as token
 use Rattle.text.specs.Lexings.{Lexing}
 use Rattle.text.specs.Steps.{at}
@@ -10,7 +12,10 @@ use Rattle.text.specs.Tokens.{Lexeme, lexeme, is_end, Verdict}
 use Rattle.grammar.specs.Grammars.{joint, Of, OneOf, Tree, TreeAt}
 use Rattle.grammar.specs.Parsers.{Read, passed, take_by, take_joint_by, second, second_by, misfit, parse, parse_at}
 use Rattle.grammar.specs.Streams.{Stream, Refusal, from}
-use Rattle.grammar.specs.TokenClasses.{class_of, is_class, among}
+use Rattle.grammar.specs.declared.classing.TokenClass.{TokenClass}
+use Rattle.grammar.specs.declared.classing.TokenClass.TheVariants as class
+use Rattle.grammar.specs.TokenClasses.{class_number, class_of, is_class, among}
+use Rattle.grammar.proofs.ClassNumbers.{class_one}
 use Rattle.grammar.proofs.Inversions.{same_ok, never_ok, passed_on}
 use Rattle.syntax.specs.Nodes.{Makes, magnitude, minus}
 use Rattle.syntax.specs.Syntax.{rule}
@@ -18,6 +23,7 @@ use Rattle.reading.specs.declared.readers.Reader.{Reader}
 use Rattle.reading.specs.Sizes.{size, most}
 use Rattle.reading.specs.States.{stream_by, stream_of, state_of, Answer, written, Reads, Takes, Builds}
 use Rattle.reading.specs.Steps.{taken, any_taken, jointly, token_made, mark_made, negative_made}
+use Rattle.reading.proofs.Branches.{none_of}
 use Rattle.reading.proofs.Sequences.{got, refused, Silent, silent_token, Whole, start, token_on}
 
 -- a number of the class of those that stand alone
@@ -154,6 +160,18 @@ pub not_joined : {a m b : Reader} {i p : ℕ} {f : Refusal} → Takes (token_mad
 not_joined {a} {m} {f = f} r s =
     let x = got r.reads in
     record { lends = s.reads.lends ∙ r.reads.lends; goes = tt; reads = sym (ap (written negative_made (state_of a)) (joint_err (stream_of a) x.tree (stream_of m) f x.read (refused s.reads))) }
+
+-- what is no number has neither class of numbers
+pub no_number : (t : Token (Bor (List ℕ))) → ((v : ℕ) → t ≡ token.Number v → ⊥) → among (52 ∷ (53 ∷ [])) (class_of (lexeme t)) ≡ false
+no_number (token.Word k) n =
+    none_of (class_number (class.Word k)) (52 ∷ (53 ∷ []))
+    ((λ e. let q : ◌≡◌ {A = TokenClass} (class.Word k) class.Number = class_one (class.Word k) class.Number e in cc), ((λ e. let q : ◌≡◌ {A = TokenClass} (class.Word k) class.Large = class_one (class.Word k) class.Large e in cc), tt))
+no_number (token.Sign s) n =
+    none_of (class_number (class.Sign s)) (52 ∷ (53 ∷ []))
+    ((λ e. let q : ◌≡◌ {A = TokenClass} (class.Sign s) class.Number = class_one (class.Sign s) class.Number e in cc), ((λ e. let q : ◌≡◌ {A = TokenClass} (class.Sign s) class.Large = class_one (class.Sign s) class.Large e in cc), tt))
+no_number (token.Name b) n = refl
+no_number (token.Number v) n = absurd (n v refl)
+no_number token.End n = refl
 
 -- ---- values of 32 bits
 

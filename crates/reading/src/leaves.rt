@@ -3,8 +3,7 @@ ghost use Rattle.std.specs.Prelude.{◌≡◌, ℕ, ◌≤◌, pos};
 ghost use Rattle.grammar.specs.Grammars.{seq, tok};
 ghost use Rattle.grammar.specs.Parsers.{parse_at};
 ghost use Rattle.grammar.specs.TokenClasses.{class_number};
-ghost use Rattle.text.specs.Tokens.{lexeme};
-ghost use Rattle.syntax.specs.Nodes.{magnitude, minus, number_made, inner_made};
+ghost use Rattle.syntax.specs.Nodes.{minus, number_made, inner_made};
 ghost use Rattle.syntax.specs.Syntax.{rule, number};
 ghost use Rattle.reading.specs.States.{stream_of, Builds, shown, of_node};
 ghost use Rattle.reading.specs.Steps.{taken, jointly, blamed, variable_made, bare_made, of_variable_made, positive_made, negative_made};
@@ -18,16 +17,6 @@ use table::nodes::Node;
 use text::places::Placed;
 use text::spellings::Sign;
 use text::tokens::{LexFault, Token};
-
-/// The magnitude of a number.
-fn magnitude(token: Token<&[u8]>) -> u32
-    ensures { result ≡ magnitude (lexeme token.entry) }
-{
-    match token {
-        Token::Number(value) => value,
-        _ => 0,
-    }
-}
 
 /// The value of a number behind a `-`.
 fn below(magnitude: u32) -> i32
@@ -87,7 +76,9 @@ impl<'s, 't> Reader<'s, 't> {
     fn positive(&mut self) -> Result<Numbered, Placed<GrammarFault>>
         ensures { Builds positive_made (taken 52 (stream_of self.old)) self.old (shown of_node result) self.new }
     {
-        let magnitude = magnitude(self.token);
+        let Token::Number(magnitude) = self.token else {
+            return Err(self.misfit());
+        };
         let place = self.take(TokenClass::Number)?;
         Ok(self.record(valued(place, magnitude as i32)))
     }
@@ -100,7 +91,9 @@ impl<'s, 't> Reader<'s, 't> {
         let place = self
             .take(TokenClass::Sign(Sign::Minus))
             .map_err(|fault| blamed(fault, ahead))?;
-        let magnitude = magnitude(self.token);
+        let Token::Number(magnitude) = self.token else {
+            return Err(self.misfit());
+        };
         self.one_of(&[TokenClass::Number, TokenClass::Large])?;
         Ok(self.record(valued(place, below(magnitude))))
     }

@@ -115,10 +115,10 @@ impl<'s, 't> Reader<'s, 't> {
     pub fn name(&mut self) -> Result<Name, Placed<GrammarFault>>
         ensures { Takes name_made (taken 51 (stream_of self.old)) self.old (shown of_name result) self.new }
     {
-        let length = match self.token {
-            Token::Name(bytes) => bytes.len() as u8,
-            _ => 0,
+        let Token::Name(bytes) = self.token else {
+            return Err(self.misfit());
         };
+        let length = bytes.len() as u8;
         let place = self.take(TokenClass::Name)?;
         Ok(Name { length, place })
     }

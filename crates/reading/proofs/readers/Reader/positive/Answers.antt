@@ -12,4 +12,4 @@ returns c =
     let s = single (silent_token 52) c.in_ok-place.ensures in
     let self = c.args.self.now in
     let is = token_is 52 (lexeme self.token) self.place _ s.tree _ s.read in
-    node s.whole c.record.ensures (valued_is c.valued.ensures s.place (positive_value _ (lexeme self.token) c.magnitude-magnitude.ensures (ap (λ (x : Placed Lexeme). eqb (class_of x.item) 52) (sym is) ∙ s.tree.1) ∙ ap (λ (x : Placed Lexeme). pos (magnitude x.item)) (sym is))) refl
+    node s.whole c.record.ensures (valued_is c.valued.ensures s.place (positive_value _ (lexeme self.token) (sym (ap (λ t. magnitude (lexeme t)) c.in-Number.is)) (ap (λ (x : Placed Lexeme). eqb (class_of x.item) 52) (sym is) ∙ s.tree.1) ∙ ap (λ (x : Placed Lexeme). pos (magnitude x.item)) (sym is))) refl
