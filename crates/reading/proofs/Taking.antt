@@ -1,10 +1,15 @@
 -- A token taken from the stream of a reader.
-use Rattle.std.proofs.Common.{◌≡◌, ℕ, zero, suc, ◌+◌, ◌<◌, ◌≤◌, Bool, true, false, cond, ◌&&◌, eqb, List, [], ◌∷◌, Ok, Err, sym, refl, ap, ◌∙◌, arith}
+use Rattle.std.proofs.Common.{◌≡◌, ℕ, zero, suc, ◌+◌, ◌<◌, ◌≤◌, Bool, true, false, cond, not, ◌&&◌, eqb, List, [], ◌∷◌, length, Ok, Err, Result, sym, refl, ap, ◌∙◌, arith}
 use Rattle.std.proofs.lemmas.Bool.{eq-eqb, ne_eqb, both_ways}
+use Rattle.std.specs.Borrow.{Bor}
+use Rattle.std.specs.Result.{MatchResult}
 use Rattle.text.specs.declared.places.Placed.{Placed}
+use Rattle.text.specs.declared.tokens.LexFault.{LexFault}
+use Rattle.text.specs.declared.tokens.Token.{Token}
 use Rattle.text.specs.declared.tokens.Token.TheVariants as token
-use Rattle.text.specs.Lexings.{Lexing}
-use Rattle.text.specs.Steps.{at}
+use Rattle.text.specs.Laws.{Stepped}
+use Rattle.text.specs.Lexings.{Lexing, lexed_from}
+use Rattle.text.specs.Steps.{at, answered}
 use Rattle.text.specs.Tokens.{Lexeme, lexeme, is_end, Verdict}
 use Rattle.grammar.specs.declared.faults.GrammarFault.TheVariants.{TooDeep}
 use Rattle.grammar.specs.Parsers.{passed, take_by, two, misfit}
@@ -14,6 +19,7 @@ use Rattle.grammar.proofs.Inversions.{never_ok, passed_on}
 use Rattle.reading.specs.declared.readers.Reader.{Reader}
 use Rattle.reading.specs.States.{stream_by, stream_of, IsAhead, state_of, Lends, applied, written, Takes}
 use Rattle.reading.specs.Steps.{tail_of, front_of, misfit_of, taken, opened, token_made}
+use Rattle.reading.proofs.Advancing.{advance_ok, advance_err}
 
 -- the class of the token ahead is that of the stream
 pub front_class_lem : (t : Lexeme) (p : ℕ) (l : Lexing) → front_of (stream_by t p l) ≡ class_of t
@@ -122,7 +128,7 @@ tail_none [] v f q = refl
 tail_none (t ∷ ts) v f q = absurd (never_ok _ _ q)
 
 -- the token ahead is of the first class, and then comes u
-pub two_ok : (c e : ℕ) (t : Lexeme) (p : ℕ) (l : Lexing) (u : Lexeme) (q : ℕ) (m : Lexing) → is_end t ≡ false → class_of t ≡ c → Ok (stream_by u q m) ≡ tail_of (stream_by t p l) → is_end u ≡ false → two c e (stream_by t p l).tokens ≡ eqb (class_of u) e
+two_ok : (c e : ℕ) (t : Lexeme) (p : ℕ) (l : Lexing) (u : Lexeme) (q : ℕ) (m : Lexing) → is_end t ≡ false → class_of t ≡ c → Ok (stream_by u q m) ≡ tail_of (stream_by t p l) → is_end u ≡ false → two c e (stream_by t p l).tokens ≡ eqb (class_of u) e
 unfolding headed
 two_ok c e t p l u q m h k next some =
     let s = streamed t p l h in
@@ -130,7 +136,7 @@ two_ok c e t p l u q m h k next some =
     ap (λ (x : Stream). two c e x.tokens) s ∙ two_by c e (at t p) l.tokens l.verdict (eq-eqb (class_of t) c k) ∙ ap (headed e) (tail_tokens l.tokens l.verdict _ tail)
     ∙ ap (λ (x : Stream). headed e x.tokens) (streamed u q m some)
 
-pub two_end : (c e : ℕ) (t : Lexeme) (p : ℕ) (l : Lexing) (u : Lexeme) (q : ℕ) (m : Lexing) → is_end t ≡ false → class_of t ≡ c → Ok (stream_by u q m) ≡ tail_of (stream_by t p l) → is_end u ≡ true → two c e (stream_by t p l).tokens ≡ false
+two_end : (c e : ℕ) (t : Lexeme) (p : ℕ) (l : Lexing) (u : Lexeme) (q : ℕ) (m : Lexing) → is_end t ≡ false → class_of t ≡ c → Ok (stream_by u q m) ≡ tail_of (stream_by t p l) → is_end u ≡ true → two c e (stream_by t p l).tokens ≡ false
 unfolding headed
 two_end c e t p l u q m h k next none =
     let s = streamed t p l h in
@@ -138,7 +144,7 @@ two_end c e t p l u q m h k next none =
     ap (λ (x : Stream). two c e x.tokens) s ∙ two_by c e (at t p) l.tokens l.verdict (eq-eqb (class_of t) c k) ∙ ap (headed e) (tail_tokens l.tokens l.verdict _ tail)
     ∙ ap (λ b. headed e (cond {A = Stream} b (record { tokens = []; verdict = Ok q }) (record { tokens = at u q ∷ m.tokens; verdict = m.verdict })).tokens) none
 
-pub two_err : (c e : ℕ) (t : Lexeme) (p : ℕ) (l : Lexing) (f : Refusal) → is_end t ≡ false → class_of t ≡ c → Err f ≡ tail_of (stream_by t p l) → two c e (stream_by t p l).tokens ≡ false
+two_err : (c e : ℕ) (t : Lexeme) (p : ℕ) (l : Lexing) (f : Refusal) → is_end t ≡ false → class_of t ≡ c → Err f ≡ tail_of (stream_by t p l) → two c e (stream_by t p l).tokens ≡ false
 unfolding headed
 two_err c e t p l f h k next =
     let s = streamed t p l h in
@@ -156,3 +162,15 @@ two_not c e t p l n = go (is_end t) refl
     go : (b : Bool) → is_end t ≡ b → two c e (cond {A = Stream} b (record { tokens = []; verdict = Ok p }) (record { tokens = at t p ∷ l.tokens; verdict = l.verdict })).tokens ≡ false
     go true k = refl
     go false k = by l.tokens (ne_eqb (class_of t) c (n k))
+
+-- the next token, as the code has it, decides
+pub two_told : (text : List ℕ) (i j p : ℕ) (t : Lexeme) (c e : ℕ) (n : Result (Placed (Token (Bor (List ℕ)))) (Placed LexFault)) (r : Bool) → i ≤ length text → is_end t ≡ false → class_of t ≡ c → Stepped text i (answered n) j → MatchResult n (λ x. r ≡ (not (is_end (lexeme x.item)) && eqb (class_of (lexeme x.item)) e)) (λ f. r ≡ false) → r ≡ two c e (stream_by t p (lexed_from (suc (length text)) text i)).tokens
+two_told text i j p t c e (Ok n) r within some class stepped told = go (is_end (lexeme n.item)) refl
+  where
+    next : Ok (stream_by (lexeme n.item) n.place (lexed_from (suc (length text)) text j)) ≡ tail_of (stream_by t p (lexed_from (suc (length text)) text i))
+    next = advance_ok text i j p t (at (lexeme n.item) n.place) within some stepped
+
+    go : (b : Bool) → is_end (lexeme n.item) ≡ b → r ≡ two c e (stream_by t p (lexed_from (suc (length text)) text i)).tokens
+    go true end = told ∙ ap (λ b. not b && eqb (class_of (lexeme n.item)) e) end ∙ sym (two_end c e t p _ (lexeme n.item) n.place _ some class next end)
+    go false more = told ∙ ap (λ b. not b && eqb (class_of (lexeme n.item)) e) more ∙ sym (two_ok c e t p _ (lexeme n.item) n.place _ some class next more)
+two_told text i j p t c e (Err f) r within some class stepped told = told ∙ sym (two_err c e t p _ _ some class (advance_err text i j p t f within some stepped))

@@ -61,10 +61,7 @@ impl<'s, 't> Reader<'s, 't> {
             return false;
         }
         let mut lexer = self.lexer;
-        match lexer.next_token() {
-            Ok(next) => !is_end(next.item) && token_class(next.item) == second,
-            Err(_) => false,
-        }
+        lexer.next_token().is_ok_and(|next| !is_end(next.item) && token_class(next.item) == second)
     }
 
     /// The refusal of the token ahead.
