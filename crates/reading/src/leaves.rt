@@ -39,7 +39,7 @@ fn blamed(fault: Placed<GrammarFault>, place: u16) -> Placed<GrammarFault>
     }
 }
 
-impl<'s, 't> Reader<'s, 't> {
+impl Reader<'_, '_> {
     /// A name, read as a variable.
     pub fn variable(&mut self) -> Result<Numbered, Placed<GrammarFault>>
         ensures { Builds variable_made (taken 51 (stream_of self.old)) self.old (shown of_node result) self.new }

@@ -3,6 +3,7 @@ ghost use Rattle.std.specs.Bool.{Decides};
 ghost use Rattle.std.specs.Prelude.{◌≡◌, ◌<◌, false, OnOk, map, slice_set};
 ghost use Rattle.grammar.specs.Parsers.{two};
 ghost use Rattle.grammar.specs.TokenClasses.{class_number};
+ghost use Rattle.text.specs.Steps.{at};
 ghost use Rattle.text.specs.Tokens.{is_end, lexeme};
 ghost use Rattle.reading.specs.States.{stream_of, IsAhead, Lends, Written, linked_at, Recorded, Chained, Takes, shown, of_place, of_name, of_mark, of_node};
 ghost use Rattle.reading.specs.Steps.{advanced, tail_of, front_of, misfit_of, taken, opened, any_taken, token_made, name_made, mark_made};
@@ -21,7 +22,7 @@ fn is_end(token: Token<&[u8]>) -> bool
     matches!(token, Token::End)
 }
 
-impl<'s, 't> Reader<'s, 't> {
+impl Reader<'_, '_> {
     /// Goes on to the next token.
     pub(crate) fn advance(&mut self) -> Result<(), Placed<GrammarFault>>
         requires { is_end (lexeme self.old.token) ≡ false }
@@ -64,6 +65,16 @@ impl<'s, 't> Reader<'s, 't> {
         lexer.next_token().is_ok_and(|next| !is_end(next.item) && token_class(next.item) == second)
     }
 
+    /// A refusal at the token ahead.
+    fn refusal(&self, item: GrammarFault) -> Placed<GrammarFault>
+        ensures { result ≡ at item self.now.place }
+    {
+        Placed {
+            item,
+            place: usize::from(self.place),
+        }
+    }
+
     /// The refusal of the token ahead.
     pub fn misfit(&self) -> Placed<GrammarFault>
         ensures { result ≡ misfit_of (stream_of self.now) }
@@ -73,10 +84,7 @@ impl<'s, 't> Reader<'s, 't> {
         } else {
             GrammarFault::Misfit
         };
-        Placed {
-            item,
-            place: usize::from(self.place),
-        }
+        self.refusal(item)
     }
 
     /// Takes a token of a class, and tells its place. The end is not taken.
@@ -102,10 +110,7 @@ impl<'s, 't> Reader<'s, 't> {
         if !self.is_ahead(class) {
             return Err(self.misfit());
         }
-        Err(Placed {
-            item: GrammarFault::TooDeep,
-            place: usize::from(self.place),
-        })
+        Err(self.refusal(GrammarFault::TooDeep))
     }
 
     /// Takes a name.
