@@ -1,14 +1,16 @@
 -- The token at the front of a text is its longest front of a token's shape.
 use Rattle.std.proofs.Common.{◌≡◌, ℕ, suc, ◌<◌, ◌≤◌, Bool, true, false, List, [], ◌∷◌, ◌++◌, length, get_or, take, drop, Some, None, Option, sym, refl, ap, ◌∙◌, subst, inl, inr, arith}
 use Rattle.std.proofs.lemmas.List.{take-append-drop, length-take-le, length-take}
+use Rattle.std.specs.List.{prefix_len}
+use Rattle.std.proofs.lemmas.List.Sums.{prefix_len-le-length}
 use Rattle.std.proofs.lemmas.Bool.{eqb-true, or_left, both_ways}
 use Rattle.text.specs.declared.spellings.Sign.{Sign}
-use Rattle.text.specs.Classes.{class_of}
+use Rattle.text.specs.Classes.{class_of, class_number}
 use Rattle.text.specs.Laws.{Each, Shaped, Longest, Shapeless}
-use Rattle.text.specs.Lexemes.{letter, digit, part, run_of, width, sign_width}
+use Rattle.text.specs.Lexemes.{letter, digit, part, width, sign_width}
 use Rattle.text.specs.Spellings.{spelled_sign, sign_at}
-use Rattle.text.proofs.Fronts.{width_by_lem, run_some}
-use Rattle.text.proofs.Runs.{run_within, run_each, run_most}
+use Rattle.text.proofs.Fronts.{width_by_lem}
+use Rattle.text.proofs.Runs.{run_some, run_each, run_most}
 use Rattle.text.proofs.Signs.{signed, sign_front, sign_longest}
 use Rattle.text.proofs.Spelled.{some_same, none_some}
 
@@ -26,39 +28,39 @@ head_same : (x y : ℕ) (xs ys : List ℕ) → x ∷ xs ≡ y ∷ ys → x ≡ y
 head_same x y xs ys e = cc
 
 -- the first byte of a sign
-pub sign_head : (x : ℕ) (xs : List ℕ) (s : Sign) → x ∷ xs ≡ spelled_sign s → class_of x ≡ 4
-sign_head x xs s e = ap (λ l. class_of (get_or l 0 0)) e ∙ (signed s).first
+pub sign_head : (x : ℕ) (xs : List ℕ) (s : Sign) → x ∷ xs ≡ spelled_sign s → class_number (class_of x) ≡ 4
+sign_head x xs s e = ap (λ l. class_number (class_of (get_or l 0 0))) e ∙ ap class_number (signed s).first
 
 -- where the text begins with a letter, its fronts are words
-word_most : (b : ℕ) (bs v more : List ℕ) → letter b ≡ true → Shaped v → b ∷ bs ≡ v ++ more → length v ≤ run_of part (b ∷ bs)
+word_most : (b : ℕ) (bs v more : List ℕ) → letter b ≡ true → Shaped v → b ∷ bs ≡ v ++ more → length v ≤ prefix_len part (b ∷ bs)
 word_most b bs [] more l h e = absurd (never_empty h)
 word_most b bs (x ∷ xs) more l (inl (w, h)) e =
-    subst (λ t. suc (length xs) ≤ run_of part t) (sym e) (run_most part (x ∷ xs) more (or_left (letter x) (digit x) w, h))
+    subst (λ t. suc (length xs) ≤ prefix_len part t) (sym e) (run_most part (x ∷ xs) more (or_left (letter x) (digit x) w, h))
 word_most b bs (x ∷ xs) more l (inr (inl (d, h))) e =
-    let two = eqb-true (class_of b) 2 l in
-    let three = eqb-true (class_of x) 3 d in
-    let same = ap class_of (head_same b x bs (xs ++ more) e) in
+    let two = eqb-true (class_number (class_of b)) 2 l in
+    let three = eqb-true (class_number (class_of x)) 3 d in
+    let same = ap (λ y. class_number (class_of y)) (head_same b x bs (xs ++ more) e) in
     absurd (omega arith)
 word_most b bs (x ∷ xs) more l (inr (inr (s, k))) e =
-    let two = eqb-true (class_of b) 2 l in
+    let two = eqb-true (class_number (class_of b)) 2 l in
     let four = sign_head x xs s k in
-    let same = ap class_of (head_same b x bs (xs ++ more) e) in
+    let same = ap (λ y. class_number (class_of y)) (head_same b x bs (xs ++ more) e) in
     absurd (omega arith)
 
 -- where it begins with a digit, they are digits
-digits_most : (b : ℕ) (bs v more : List ℕ) → digit b ≡ true → Shaped v → b ∷ bs ≡ v ++ more → length v ≤ run_of digit (b ∷ bs)
+digits_most : (b : ℕ) (bs v more : List ℕ) → digit b ≡ true → Shaped v → b ∷ bs ≡ v ++ more → length v ≤ prefix_len digit (b ∷ bs)
 digits_most b bs [] more l h e = absurd (never_empty h)
 digits_most b bs (x ∷ xs) more l (inl (w, h)) e =
-    let three = eqb-true (class_of b) 3 l in
-    let two = eqb-true (class_of x) 2 w in
-    let same = ap class_of (head_same b x bs (xs ++ more) e) in
+    let three = eqb-true (class_number (class_of b)) 3 l in
+    let two = eqb-true (class_number (class_of x)) 2 w in
+    let same = ap (λ y. class_number (class_of y)) (head_same b x bs (xs ++ more) e) in
     absurd (omega arith)
 digits_most b bs (x ∷ xs) more l (inr (inl (d, h))) e =
-    subst (λ t. suc (length xs) ≤ run_of digit t) (sym e) (run_most digit (x ∷ xs) more (d, h))
+    subst (λ t. suc (length xs) ≤ prefix_len digit t) (sym e) (run_most digit (x ∷ xs) more (d, h))
 digits_most b bs (x ∷ xs) more l (inr (inr (s, k))) e =
-    let three = eqb-true (class_of b) 3 l in
+    let three = eqb-true (class_number (class_of b)) 3 l in
     let four = sign_head x xs s k in
-    let same = ap class_of (head_same b x bs (xs ++ more) e) in
+    let same = ap (λ y. class_number (class_of y)) (head_same b x bs (xs ++ more) e) in
     absurd (omega arith)
 
 -- else they are signs
@@ -91,10 +93,10 @@ longest_by text n h s most =
 abbrev Widest : List ℕ → ℕ → Type 0
 Widest text n = (n ≤ length text) × ((n ≡ 0 → Shapeless text) × (0 < n → Longest (take n text) text))
 
-run_widest : (p : ℕ → Bool) (b : ℕ) (bs : List ℕ) (n : ℕ) → n ≡ run_of p (b ∷ bs) → p b ≡ true → (Each p (take (run_of p bs) bs) → Shaped (b ∷ take (run_of p bs) bs)) → ((v more : List ℕ) → Shaped v → b ∷ bs ≡ v ++ more → length v ≤ run_of p (b ∷ bs)) → Widest (b ∷ bs) n
+run_widest : (p : ℕ → Bool) (b : ℕ) (bs : List ℕ) (n : ℕ) → n ≡ prefix_len p (b ∷ bs) → p b ≡ true → (Each p (take (prefix_len p bs) bs) → Shaped (b ∷ take (prefix_len p bs) bs)) → ((v more : List ℕ) → Shaped v → b ∷ bs ≡ v ++ more → length v ≤ prefix_len p (b ∷ bs)) → Widest (b ∷ bs) n
 run_widest p b bs n e t shape most =
-    let one : n ≡ suc (run_of p bs) = e ∙ run_some p b bs t in
-    let within = run_within p (b ∷ bs) in
+    let one : n ≡ suc (prefix_len p bs) = e ∙ run_some p b bs t in
+    let within = prefix_len-le-length p (b ∷ bs) in
     let w : n ≤ length (b ∷ bs) = omega arith in (
       w,
       (

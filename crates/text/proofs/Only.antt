@@ -1,5 +1,5 @@
 -- A text can be taken apart in one way only.
-use Rattle.std.proofs.Common.{◌≡◌, ℕ, zero, suc, ◌+◌, ◌-◌, Bool, true, false, cond, not, eqb, List, [], ◌∷◌, ◌++◌, length, take, drop, Some, None, Ok, Err, Result, sym, refl, ap, ◌∙◌, subst, inl, inr, add-zero, arith}
+use Rattle.std.proofs.Common.{◌≡◌, ℕ, zero, suc, ◌+◌, ◌-◌, Bool, true, false, cond, eqb, List, [], ◌∷◌, ◌++◌, length, take, drop, Some, None, Ok, Err, Result, sym, refl, ap, ◌∙◌, subst, inl, inr, add-zero, arith}
 use Rattle.std.proofs.lemmas.List.Prefix.{front_rest}
 use Rattle.std.proofs.lemmas.List.{append-nil, length-append, length-take-le, append_assoc, drop_all, take-append-le, take_all}
 use Rattle.std.proofs.lemmas.Bool.{ne_eqb, eqb-true, both_ways}
@@ -7,17 +7,14 @@ use Rattle.text.specs.declared.places.Placed.{Placed}
 use Rattle.text.specs.declared.tokens.LexFault.{LexFault}
 use Rattle.text.specs.declared.tokens.LexFault.TheVariants.{NoToken, CommentOpen, NumberTooLarge, NameTooLong}
 use Rattle.text.specs.declared.tokens.Token.TheVariants.{End}
-use Rattle.text.specs.Classes.{class_of}
+use Rattle.text.specs.Classes.{class_of, class_number}
 use Rattle.text.specs.Laws.{Each, Between, Unclosed, Shaped, Longest, Shapeless, Solid, Takes, Ends, Refuses, Next, NextOnly, Lexes}
 use Rattle.text.specs.Lexemes.{inside, meaning, width}
 use Rattle.text.specs.Steps.{gap, at, Step, took, step_at}
 use Rattle.text.specs.Tokens.{Lexeme, is_end, Answer, Verdict}
+use Rattle.text.proofs.Gaps.{not_inside}
 use Rattle.text.proofs.Longest.{widest, shaped_some, never_empty, sign_head}
 use Rattle.text.proofs.Steps.{step_solid, takes_token, nothing_means}
-
-not_inside : (t : Bool) → not t ≡ true → t ≡ false
-not_inside true e = sym e
-not_inside false e = refl
 
 -- a comment's bytes are passed over up to its end
 comment_through : (start : ℕ) (c more : List ℕ) (i : ℕ) → Each inside c → gap (Some start) (c ++ (125 ∷ more)) i ≡ gap None more (i + suc (length c))
@@ -64,19 +61,19 @@ unfolding class_of
 gap_unclosed rest i (c, e, h) = ap (λ l. gap None l i) e ∙ comment_over i c (i + 1) h
 
 -- a token's first byte neither is a blank nor begins a comment
-brace_class : class_of 123 ≡ 5
+brace_class : class_number (class_of 123) ≡ 5
 unfolding class_of
 brace_class = refl
 
-solid_by : (b : ℕ) (bs : List ℕ) → (class_of b ≡ 1 → ⊥) → (class_of b ≡ 5 → ⊥) → Solid (b ∷ bs)
-solid_by b bs h k = (ne_eqb (class_of b) 1 h, λ e. k (ap class_of e ∙ brace_class))
+solid_by : (b : ℕ) (bs : List ℕ) → (class_number (class_of b) ≡ 1 → ⊥) → (class_number (class_of b) ≡ 5 → ⊥) → Solid (b ∷ bs)
+solid_by b bs h k = (ne_eqb (class_number (class_of b)) 1 h, λ e. k (ap (λ x. class_number (class_of x)) e ∙ brace_class))
 
 shaped_solid : (w rest : List ℕ) → Shaped w → Solid (w ++ rest)
 shaped_solid [] rest h = absurd (never_empty h)
 shaped_solid (b ∷ bs) rest (inl (l, h)) =
-    let two = eqb-true (class_of b) 2 l in solid_by b (bs ++ rest) (λ e. omega arith) (λ e. omega arith)
+    let two = eqb-true (class_number (class_of b)) 2 l in solid_by b (bs ++ rest) (λ e. omega arith) (λ e. omega arith)
 shaped_solid (b ∷ bs) rest (inr (inl (d, h))) =
-    let three = eqb-true (class_of b) 3 d in solid_by b (bs ++ rest) (λ e. omega arith) (λ e. omega arith)
+    let three = eqb-true (class_number (class_of b)) 3 d in solid_by b (bs ++ rest) (λ e. omega arith) (λ e. omega arith)
 shaped_solid (b ∷ bs) rest (inr (inr (s, k))) =
     let four = sign_head b bs s k in solid_by b (bs ++ rest) (λ e. omega arith) (λ e. omega arith)
 

@@ -1,7 +1,8 @@
 -- The signs: what antt computes of each, and the longest at the front of a text.
-use Rattle.std.proofs.Common.{◌≡◌, ℕ, ◌-◌, ◌<◌, ◌≤◌, min, ◌⊎◌, List, ◌++◌, length, get_or, take, drop, Some, None, Ok, Option, sym, refl, ap, ◌∙◌, inl, inr, ⊎_elim, arith, lit<}
+use Rattle.std.proofs.Common.{◌≡◌, ℕ, ◌<◌, ◌≤◌, min, ◌⊎◌, List, ◌++◌, length, get_or, take, drop, Some, None, Ok, Option, sym, refl, ap, ◌∙◌, inl, inr, ⊎_elim, arith, lit<}
 use Rattle.std.proofs.lemmas.Bool.{cases_lt}
 use Rattle.std.proofs.lemmas.List.{take-append-drop, take-append-le, take_all, get_or-take}
+use Rattle.text.specs.declared.classes.ByteClass.TheVariants as class
 use Rattle.text.specs.declared.spellings.Sign.{Sign}
 use Rattle.text.specs.declared.spellings.Sign.TheVariants as sign
 use Rattle.text.specs.declared.tokens.Token.TheVariants as token
@@ -13,7 +14,7 @@ use Rattle.text.proofs.Spelled.{whose_spells}
 -- what antt computes of a sign
 pub record Signed (s : Sign) : Type 0 where
   pub some : 0 < length (spelled_sign s)
-  pub first : class_of (get_or (spelled_sign s) 0 0) ≡ 4
+  pub first : class_of (get_or (spelled_sign s) 0 0) ≡ class.Sign
   pub means : meaning (spelled_sign s) ≡ Ok (token.Sign s)
   pub found : sign_of (spelled_sign s) ≡ Some s
   pub size : (length (spelled_sign s) ≡ 1) ⊎ (length (spelled_sign s) ≡ 2)
@@ -56,22 +57,22 @@ sign_front xs s e = go (sign_of (take 2 xs)) refl e
     go None h e = front_again (spelled_sign s) xs 1 (whose_spells spelled_sign every_sign (take 1 xs) s e)
 
 -- and its first byte is a sign's
-pub sign_class_lem : (xs : List ℕ) (s : Sign) → sign_at xs ≡ Some s → class_of (get_or xs 0 0) ≡ 4
+pub sign_class_lem : (xs : List ℕ) (s : Sign) → sign_at xs ≡ Some s → class_of (get_or xs 0 0) ≡ class.Sign
 sign_class_lem xs s e =
     let n = length (spelled_sign s) in
     ap class_of (sym (get_or-take n xs 0 0 (signed s).some) ∙ ap (λ l. get_or l 0 0) (sign_front xs s e)) ∙ (signed s).first
 
 -- the two first bytes, or the one that there is
-two_first : (xs : List ℕ) (n : ℕ) → n ≡ min (length xs) 2 → take (n - 0) xs ≡ take 2 xs
+two_first : (xs : List ℕ) (n : ℕ) → n ≡ min (length xs) 2 → take n xs ≡ take 2 xs
 two_first xs n e = ⊎_elim short long (cases_lt (length xs) 2)
   where
-    short : length xs < 2 → take (n - 0) xs ≡ take 2 xs
-    short h = take_all (n - 0) xs (omega arith) ∙ sym (take_all 2 xs (omega arith))
+    short : length xs < 2 → take n xs ≡ take 2 xs
+    short h = take_all n xs (omega arith) ∙ sym (take_all 2 xs (omega arith))
 
-    long : 2 ≤ length xs → take (n - 0) xs ≡ take 2 xs
-    long h = let k : n - 0 ≡ 2 = omega arith in ap (λ j. take j xs) k
+    long : 2 ≤ length xs → take n xs ≡ take 2 xs
+    long h = let k : n ≡ 2 = omega arith in ap (λ j. take j xs) k
 
-pub sign_two : (xs : List ℕ) (n : ℕ) (o : Option Sign) → n ≡ min (length xs) 2 → o ≡ sign_of (take (n - 0) xs) → sign_from o (sign_of (take 1 xs)) ≡ sign_at xs
+pub sign_two : (xs : List ℕ) (n : ℕ) (o : Option Sign) → n ≡ min (length xs) 2 → o ≡ sign_of (take n xs) → sign_from o (sign_of (take 1 xs)) ≡ sign_at xs
 unfolding sign_at
 sign_two xs n o e h = ap (λ k. sign_from k (sign_of (take 1 xs))) (h ∙ ap sign_of (two_first xs n e))
 

@@ -8,7 +8,7 @@ use Rattle.text.specs.declared.spellings.Keyword.{Keyword}
 use Rattle.text.specs.declared.tokens.Token.TheVariants as token
 use Rattle.text.specs.declared.tokens.LexFault.{LexFault}
 use Rattle.text.specs.declared.tokens.LexFault.TheVariants.{NoToken, CommentOpen, NumberTooLarge, NameTooLong}
-use Rattle.text.specs.Classes.{class_of}
+use Rattle.text.specs.Classes.{class_of, class_number}
 use Rattle.text.specs.Laws.{Between, Shaped, Longest, Solid, Takes, Ends, Next, Shortens}
 use Rattle.text.specs.Lexemes.{digit, meaning, width, word_means, number_means, magnitude_of}
 use Rattle.text.specs.Spellings.{keyword_of}
@@ -48,7 +48,7 @@ shaped_sizable [] h = absurd (never_empty h)
 shaped_sizable (b ∷ bs) (inl (l, h)) =
     subst Sizable (sym (meaning_by_lem b bs true (digit b) l refl)) (word_sizable (keyword_of (b ∷ bs)) (b ∷ bs))
 shaped_sizable (b ∷ bs) (inr (inl (d, h))) =
-    let three = eqb-true (class_of b) 3 d in
+    let three = eqb-true (class_number (class_of b)) 3 d in
     subst Sizable (sym (meaning_by_lem b bs false true (ap (λ c. eqb c 2) three) d)) (number_sizable (magnitude_of (b ∷ bs)))
 shaped_sizable (b ∷ bs) (inr (inr (s, e))) = subst Sizable (sym (ap meaning e ∙ (signed s).means)) refl
 

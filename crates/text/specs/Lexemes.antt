@@ -1,22 +1,24 @@
 -- What a piece of text means as a token, and how long the token at the front of a text is.
-use Rattle.std.specs.Prelude.{ℕ, suc, ◌+◌, ◌-◌, ◌*◌, Bool, cond, not, ◌||◌, List, [], ◌∷◌, length, Some, None, Ok, Err, Option, Result, ◌==◌, nat_le}
+use Rattle.std.specs.Prelude.{ℕ, ◌+◌, ◌-◌, ◌*◌, Bool, cond, not, ◌||◌, List, [], ◌∷◌, length, Some, None, Ok, Err, Option, Result, ◌==◌, nat_le}
+use Rattle.std.specs.List.{prefix_len}
+use Rattle.text.specs.declared.classes.ByteClass.TheVariants as class
 use Rattle.text.specs.declared.spellings.Keyword.{Keyword}
 use Rattle.text.specs.declared.spellings.Sign.{Sign}
 use Rattle.text.specs.declared.tokens.LexFault.{LexFault}
 use Rattle.text.specs.declared.tokens.LexFault.TheVariants.{NoToken, NumberTooLarge, NameTooLong}
 use Rattle.text.specs.declared.tokens.Token.TheVariants as token
-use Rattle.text.specs.Classes.{class_of}
+use Rattle.text.specs.Classes.{class_of, is_class}
 use Rattle.text.specs.Spellings.{keyword_of, sign_of, sign_at, spelled_sign}
 use Rattle.text.specs.Tokens.{Lexeme}
 
 abbrev pub blank : ℕ → Bool
-blank b = class_of b == 1
+blank b = is_class (class_of b) class.Blank
 
 abbrev pub letter : ℕ → Bool
-letter b = class_of b == 2
+letter b = is_class (class_of b) class.Letter
 
 abbrev pub digit : ℕ → Bool
-digit b = class_of b == 3
+digit b = is_class (class_of b) class.Digit
 
 -- what a word goes on with
 abbrev pub part : ℕ → Bool
@@ -25,11 +27,6 @@ part b = letter b || digit b
 -- what a comment goes on with: any byte but `}`
 abbrev pub inside : ℕ → Bool
 inside b = not (b == 125)
-
--- how long the longest front of a text is whose bytes all pass a test
-abbrev pub run_of : (ℕ → Bool) → List ℕ → ℕ
-run_of p [] = 0
-run_of p (b ∷ bs) = cond (p b) (suc (run_of p bs)) 0
 
 -- the number that decimal digits spell, where those before them spell n
 abbrev pub value_from : ℕ → List ℕ → ℕ
@@ -69,4 +66,4 @@ sign_width None = 0
 unfoldable pub width : List ℕ → ℕ
 width [] = 0
 width (b ∷ bs) =
-    cond (letter b) (run_of part (b ∷ bs)) (cond (digit b) (run_of digit (b ∷ bs)) (sign_width (sign_at (b ∷ bs))))
+    cond (letter b) (prefix_len part (b ∷ bs)) (cond (digit b) (prefix_len digit (b ∷ bs)) (sign_width (sign_at (b ∷ bs))))

@@ -2,34 +2,40 @@
 ghost use Rattle.std.specs.Prelude.{◌≡◌};
 ghost use Rattle.text.specs.Classes.{class_of};
 
-/// A byte that begins no token and stands only in a comment.
-pub const OTHER: u8 = 0;
-/// Space, tab, line feed, carriage return.
-pub const BLANK: u8 = 1;
-/// `A` to `Z` and `a` to `z`.
-pub const LETTER: u8 = 2;
-/// `0` to `9`.
-pub const DIGIT: u8 = 3;
-/// A byte of a sign.
-pub const SIGN: u8 = 4;
-/// `{`, which begins a comment.
-pub const BRACE: u8 = 5;
+use ByteClass::{Blank as B, Brace as C, Digit as D, Letter as L, Other as O, Sign as S};
+
+/// What a byte may be part of.
+#[derive(Clone, Copy, PartialEq, Eq, Debug)]
+pub enum ByteClass {
+    /// It begins no token and stands only in a comment.
+    Other,
+    /// Space, tab, line feed, carriage return.
+    Blank,
+    /// `A` to `Z` and `a` to `z`.
+    Letter,
+    /// `0` to `9`.
+    Digit,
+    /// A byte of a sign.
+    Sign,
+    /// `{`, which begins a comment.
+    Brace,
+}
 
 /// The class of each byte, thirty-two to a row.
-const CLASSES: [u8; 256] = [
-    0, 0, 0, 0, 0, 0, 0, 0, 0, 1, 1, 0, 0, 1, 0, 0, 0, 0, 0, 0, 0, 0, 0, 0, 0, 0, 0, 0, 0, 0, 0, 0,
-    1, 4, 0, 4, 0, 0, 4, 0, 4, 4, 4, 4, 4, 4, 0, 4, 3, 3, 3, 3, 3, 3, 3, 3, 3, 3, 4, 4, 4, 4, 0, 0,
-    0, 2, 2, 2, 2, 2, 2, 2, 2, 2, 2, 2, 2, 2, 2, 2, 2, 2, 2, 2, 2, 2, 2, 2, 2, 2, 2, 0, 0, 0, 0, 0,
-    0, 2, 2, 2, 2, 2, 2, 2, 2, 2, 2, 2, 2, 2, 2, 2, 2, 2, 2, 2, 2, 2, 2, 2, 2, 2, 2, 5, 4, 0, 0, 0,
-    0, 0, 0, 0, 0, 0, 0, 0, 0, 0, 0, 0, 0, 0, 0, 0, 0, 0, 0, 0, 0, 0, 0, 0, 0, 0, 0, 0, 0, 0, 0, 0,
-    0, 0, 0, 0, 0, 0, 0, 0, 0, 0, 0, 0, 0, 0, 0, 0, 0, 0, 0, 0, 0, 0, 0, 0, 0, 0, 0, 0, 0, 0, 0, 0,
-    0, 0, 0, 0, 0, 0, 0, 0, 0, 0, 0, 0, 0, 0, 0, 0, 0, 0, 0, 0, 0, 0, 0, 0, 0, 0, 0, 0, 0, 0, 0, 0,
-    0, 0, 0, 0, 0, 0, 0, 0, 0, 0, 0, 0, 0, 0, 0, 0, 0, 0, 0, 0, 0, 0, 0, 0, 0, 0, 0, 0, 0, 0, 0, 0,
+static CLASSES: [ByteClass; 256] = [
+    O, O, O, O, O, O, O, O, O, B, B, O, O, B, O, O, O, O, O, O, O, O, O, O, O, O, O, O, O, O, O, O,
+    B, S, O, S, O, O, S, O, S, S, S, S, S, S, O, S, D, D, D, D, D, D, D, D, D, D, S, S, S, S, O, O,
+    O, L, L, L, L, L, L, L, L, L, L, L, L, L, L, L, L, L, L, L, L, L, L, L, L, L, L, O, O, O, O, O,
+    O, L, L, L, L, L, L, L, L, L, L, L, L, L, L, L, L, L, L, L, L, L, L, L, L, L, L, C, S, O, O, O,
+    O, O, O, O, O, O, O, O, O, O, O, O, O, O, O, O, O, O, O, O, O, O, O, O, O, O, O, O, O, O, O, O,
+    O, O, O, O, O, O, O, O, O, O, O, O, O, O, O, O, O, O, O, O, O, O, O, O, O, O, O, O, O, O, O, O,
+    O, O, O, O, O, O, O, O, O, O, O, O, O, O, O, O, O, O, O, O, O, O, O, O, O, O, O, O, O, O, O, O,
+    O, O, O, O, O, O, O, O, O, O, O, O, O, O, O, O, O, O, O, O, O, O, O, O, O, O, O, O, O, O, O, O,
 ];
 
 /// The class of a byte.
-pub fn class_of(b: u8) -> u8
+pub fn class_of(b: u8) -> ByteClass
     ensures { result ≡ class_of b }
 {
-    CLASSES[b as usize]
+    CLASSES[usize::from(b)]
 }

@@ -1,12 +1,13 @@
 //! The lexer: a window on a text that moves from token to token.
-ghost use Rattle.std.specs.Prelude.{◌≡◌, ℕ, ◌+◌, ◌<◌, ◌≤◌, Bool, length, drop, None};
+ghost use Rattle.std.specs.Prelude.{◌≡◌, ℕ, ◌+◌, ◌<◌, ◌≤◌, length, drop, None};
+ghost use Rattle.std.specs.List.{prefix_len};
 ghost use Rattle.text.specs.Spellings.{keyword_of, sign_at};
 ghost use Rattle.text.specs.Laws.{Stepped, Counted};
 ghost use Rattle.text.specs.Lexings.{lexed, counted};
-ghost use Rattle.text.specs.Lexemes.{blank, digit, part, inside, run_of, magnitude_of, word_means, number_means};
+ghost use Rattle.text.specs.Lexemes.{blank, part, magnitude_of, word_means, number_means};
 ghost use Rattle.text.specs.Steps.{gap, answered, front, meant, taken};
 
-use crate::classes::{BLANK, DIGIT, LETTER, SIGN, class_of};
+use crate::classes::{ByteClass, class_of};
 use crate::places::Placed;
 use crate::spellings::{Sign, Spelled, keyword_of, sign_of};
 use crate::tokens::{LexFault, Token};
@@ -20,67 +21,21 @@ const LARGEST: u64 = 2_147_483_648;
 /// The most bytes that a name may have.
 const LONGEST: usize = 24;
 
-/// A test of a byte.
-trait Test {
-    ghost passes: { ℕ → Bool };
-
-    fn test(b: u8) -> bool
-        ensures { result ≡ passes b };
+/// Whether a word goes on with the byte.
+fn is_part(b: u8) -> bool
+    ensures { result ≡ part b }
+{
+    matches!(class_of(b), ByteClass::Letter | ByteClass::Digit)
 }
 
-struct Blank;
-
-impl Test for Blank {
-    ghost passes = { blank };
-
-    fn test(b: u8) -> bool {
-        class_of(b) == BLANK
-    }
-}
-
-/// A letter or a digit.
-struct Part;
-
-impl Test for Part {
-    ghost passes = { part };
-
-    fn test(b: u8) -> bool {
-        let class = class_of(b);
-        class == LETTER || class == DIGIT
-    }
-}
-
-struct Digit;
-
-impl Test for Digit {
-    ghost passes = { digit };
-
-    fn test(b: u8) -> bool {
-        class_of(b) == DIGIT
-    }
-}
-
-/// Any byte but the one that ends a comment.
-struct Inside;
-
-impl Test for Inside {
-    ghost passes = { inside };
-
-    fn test(b: u8) -> bool {
-        b != b'}'
-    }
-}
-
-/// How many bytes at the front pass the test, up to the first that does not.
-fn run<P: Test>(rest: &[u8]) -> usize
-    ensures run { result ≡ run_of P.passes rest.now }
+/// How many blanks stand at the front.
+fn blanks(rest: &[u8]) -> usize
+    ensures run { result ≡ prefix_len blank rest.now }
     ensures within { result ≤ length rest.now }
 {
-    let mut n = 0;
-    while n < rest.len() && P::test(rest[n]) {
-        n += 1;
-    }
-    n
+    rest.iter()
+        .take_while(|b| class_of(**b) == ByteClass::Blank)
+        .count()
 }
 
 /// From `start` on, where the next token stands; or where a comment is left open.
@@ -90,15 +45,12 @@ fn gap_end(text: &[u8], start: usize) -> Result<usize, usize>
 {
     let mut place = start;
     loop {
-        place += run::<Blank>(&text[place..]);
-        if place == text.len() || text[place] != b'{' {
+        place += blanks(&text[place..]);
+        if text.get(place) != Some(&b'{') {
             return Ok(place);
         }
-        let comment = run::<Inside>(&text[place..]);
-        if place + comment == text.len() {
-            return Err(place);
-        }
-        place += comment + 1;
+        let close = text[place..].iter().position(|b| *b == b'}').ok_or(place)?;
+        place += close + 1;
     }
 }
 
@@ -120,13 +72,10 @@ fn magnitude(digits: &[u8]) -> Option<u32>
 fn word<'a>(bytes: &'a [u8]) -> Result<Token<&'a [u8]>, LexFault>
     ensures { meant result ≡ word_means (keyword_of bytes.now) bytes.now }
 {
-    if let Some(keyword) = keyword_of(bytes) {
-        return Ok(Token::Word(keyword));
-    }
-    if bytes.len() <= LONGEST {
-        Ok(Token::Name(bytes))
-    } else {
-        Err(LexFault::NameTooLong)
+    match keyword_of(bytes) {
+        Some(keyword) => Ok(Token::Word(keyword)),
+        None if bytes.len() <= LONGEST => Ok(Token::Name(bytes)),
+        None => Err(LexFault::NameTooLong),
     }
 }
 
@@ -134,10 +83,8 @@ fn word<'a>(bytes: &'a [u8]) -> Result<Token<&'a [u8]>, LexFault>
 fn number<'a>(digits: &'a [u8]) -> Result<Token<&'a [u8]>, LexFault>
     ensures { meant result ≡ number_means (magnitude_of digits.now) }
 {
-    match magnitude(digits) {
-        Some(n) => Ok(Token::Number(n)),
-        None => Err(LexFault::NumberTooLarge),
-    }
+    let value = magnitude(digits).ok_or(LexFault::NumberTooLarge)?;
+    Ok(Token::Number(value))
 }
 
 /// The longest sign at the front.
@@ -146,10 +93,7 @@ fn sign_at(rest: &[u8]) -> Option<Sign>
     ensures { result ≡ sign_at rest.now }
 {
     let two = rest.len().min(2);
-    match sign_of(&rest[0..two]) {
-        Some(sign) => Some(sign),
-        None => sign_of(&rest[0..1]),
-    }
+    sign_of(&rest[..two]).or_else(|| sign_of(&rest[..1]))
 }
 
 /// The token at the front, with the number of its bytes.
@@ -158,19 +102,22 @@ fn token_at<'a>(rest: &'a [u8]) -> Result<(Token<&'a [u8]>, usize), LexFault>
     ensures { taken result ≡ front rest.now }
 {
     match class_of(rest[0]) {
-        LETTER => {
-            let n = run::<Part>(rest);
-            Ok((word(&rest[0..n])?, n))
+        ByteClass::Letter => {
+            let n = rest.iter().take_while(|b| is_part(**b)).count();
+            word(&rest[..n]).map(|token| (token, n))
         }
-        DIGIT => {
-            let n = run::<Digit>(rest);
-            Ok((number(&rest[0..n])?, n))
+        ByteClass::Digit => {
+            let n = rest
+                .iter()
+                .take_while(|b| class_of(**b) == ByteClass::Digit)
+                .count();
+            number(&rest[..n]).map(|token| (token, n))
         }
-        SIGN => match sign_at(rest) {
-            Some(sign) => Ok((Token::Sign(sign), sign.spelling().len())),
-            None => Err(LexFault::NoToken),
-        },
-        _ => Err(LexFault::NoToken),
+        ByteClass::Sign => {
+            let sign = sign_at(rest).ok_or(LexFault::NoToken)?;
+            Ok((Token::Sign(sign), sign.spelling().len()))
+        }
+        ByteClass::Other | ByteClass::Blank | ByteClass::Brace => Err(LexFault::NoToken),
     }
 }
 
