@@ -1,5 +1,5 @@
 -- A step by the rules of a text.
-use Rattle.std.proofs.Common.{◌≡◌, ℕ, zero, suc, ◌+◌, ◌-◌, ◌<◌, ◌≤◌, Bool, true, false, cond, eqb, leb, ◌⊎◌, List, [], ◌∷◌, ◌++◌, length, take, drop, Some, None, Ok, Err, Option, Result, sym, refl, ap, ◌∙◌, subst, inl, inr, arith}
+use Rattle.std.proofs.Common.{◌≡◌, ℕ, zero, suc, ◌+◌, ◌<◌, ◌≤◌, Bool, true, false, cond, eqb, leb, ◌⊎◌, List, [], ◌∷◌, ◌++◌, length, take, drop, Some, None, Ok, Err, Option, Result, sym, refl, ap, ◌∙◌, subst, inl, inr, arith}
 use Rattle.std.proofs.lemmas.List.Prefix.{front_rest}
 use Rattle.std.proofs.lemmas.List.{append-nil, drop_all, append_assoc, drop-drop, length-drop, length-append, length-take-le, take-append-drop}
 use Rattle.std.proofs.lemmas.Bool.{eqb-true}
@@ -17,7 +17,6 @@ use Rattle.text.specs.Tokens.{Lexeme, is_end, Answer}
 use Rattle.text.proofs.Between.{Skipped, Opened, Came, came}
 use Rattle.text.proofs.Fronts.{meaning_by_lem}
 use Rattle.text.proofs.Longest.{widest, never_empty, shaped_some}
-use Rattle.text.proofs.Runs.{tail}
 use Rattle.text.proofs.Signs.{signed}
 
 -- what has the shape of a token is one, and not the end, but for its size
@@ -177,13 +176,13 @@ took_err : (p n : ℕ) (f : LexFault) (r : Result Lexeme LexFault) → Err f ≡
 took_err p n f (Ok u) e = absurd (let z : ◌≡◌ {A = ℕ} 0 1 = cc in omega arith)
 took_err p n f (Err g) e = let k : g ≡ f = cc in ap (λ x. took p n (Err x)) k
 
-pub step_token : (text : List ℕ) (i p n : ℕ) (t : Lexeme) → gap None (drop i text) i ≡ Ok p → p < length text → Ok (t, n) ≡ front (take (length text - p) (drop p text)) → step text i ≡ record { answer = Ok (at t p); after = p + n }
+pub step_token : (text : List ℕ) (i p n : ℕ) (t : Lexeme) → gap None (drop i text) i ≡ Ok p → p < length text → Ok (t, n) ≡ front (drop p text) → step text i ≡ record { answer = Ok (at t p); after = p + n }
 unfolding front
-step_token text i p n t e h f = step_rest text i p e h ∙ took_ok p _ n t _ (f ∙ ap front (tail text p))
+step_token text i p n t e h f = step_rest text i p e h ∙ took_ok p _ n t _ f
 
-pub step_fault : (text : List ℕ) (i p : ℕ) (g : LexFault) → gap None (drop i text) i ≡ Ok p → p < length text → Err g ≡ front (take (length text - p) (drop p text)) → step text i ≡ record { answer = Err (at g p); after = p }
+pub step_fault : (text : List ℕ) (i p : ℕ) (g : LexFault) → gap None (drop i text) i ≡ Ok p → p < length text → Err g ≡ front (drop p text) → step text i ≡ record { answer = Err (at g p); after = p }
 unfolding front
-step_fault text i p g e h f = step_rest text i p e h ∙ took_err p _ g _ (f ∙ ap front (tail text p))
+step_fault text i p g e h f = step_rest text i p e h ∙ took_err p _ g _ f
 
 -- the token at the front lies within the text
 front_width : (rest : List ℕ) (n : ℕ) (t : Lexeme) (r : Result Lexeme LexFault) → Ok (t, n) ≡ sized (width rest) r → n ≡ width rest
@@ -195,10 +194,10 @@ unfolding width
 width_within [] = omega arith
 width_within (b ∷ bs) = (widest b bs).0
 
-pub token_within : (text : List ℕ) (p n : ℕ) (t : Lexeme) → p ≤ length text → Ok (t, n) ≡ front (take (length text - p) (drop p text)) → p + n ≤ length text
+pub token_within : (text : List ℕ) (p n : ℕ) (t : Lexeme) → p ≤ length text → Ok (t, n) ≡ front (drop p text) → p + n ≤ length text
 unfolding front
 token_within text p n t h f =
-    let e = front_width (drop p text) n t _ (f ∙ ap front (tail text p)) in
+    let e = front_width (drop p text) n t _ f in
     let w = width_within (drop p text) in
     let d = length-drop p text in
     omega arith

@@ -1,5 +1,6 @@
 -- How keywords and signs are spelled, and which one a piece of the text spells.
-use Rattle.std.specs.Prelude.{ℕ, cond, List, [], ◌∷◌, take, Some, None, codes, Option}
+use Rattle.std.specs.Prelude.{ℕ, List, [], ◌∷◌, take, Some, None, codes, Option}
+use Rattle.std.specs.List.{find}
 use Rattle.std.specs.Str.{bytes_eq}
 use Rattle.text.specs.declared.spellings.Keyword.{Keyword}
 use Rattle.text.specs.declared.spellings.Keyword.TheVariants as keyword
@@ -8,8 +9,7 @@ use Rattle.text.specs.declared.spellings.Sign.TheVariants as sign
 
 -- the first of a list that a piece of text spells
 abbrev pub whose : {K : Type 0} → (K → List ℕ) → List K → List ℕ → Option K
-whose spelled [] w = None
-whose spelled (k ∷ ks) w = cond (bytes_eq (spelled k) w) (Some k) (whose spelled ks w)
+whose spelled ks w = find (λ k. bytes_eq (spelled k) w) ks
 
 abbrev pub spelled_keyword : Keyword → List ℕ
 spelled_keyword keyword.Program = codes "program"

@@ -1,8 +1,8 @@
 //! The lexer: a window on a text that moves from token to token.
-ghost use Rattle.std.specs.Prelude.{◌≡◌, ℕ, ◌+◌, ◌<◌, ◌≤◌, length, drop, None};
+ghost use Rattle.std.specs.Prelude.{◌≡◌, ℕ, ◌+◌, ◌<◌, ◌≤◌, length, drop, None, MatchResult};
 ghost use Rattle.std.specs.List.{prefix_len};
 ghost use Rattle.text.specs.Spellings.{keyword_of, sign_at};
-ghost use Rattle.text.specs.Laws.{Stepped, Counted};
+ghost use Rattle.text.specs.Laws.{Digits, Stepped, Counted};
 ghost use Rattle.text.specs.Lexings.{lexed, counted};
 ghost use Rattle.text.specs.Lexemes.{blank, part, magnitude_of, word_means, number_means};
 ghost use Rattle.text.specs.Steps.{gap, answered, front, meant, taken};
@@ -11,12 +11,13 @@ use crate::classes::{ByteClass, class_of};
 use crate::places::Placed;
 use crate::spellings::{Sign, Spelled, keyword_of, sign_of};
 use crate::tokens::{LexFault, Token};
+use std::str;
 
 /// The most bytes that a text may have.
 pub const TEXT_LIMIT: usize = 16_384;
 
 /// The largest magnitude that a number may have.
-const LARGEST: u64 = 2_147_483_648;
+const LARGEST: u32 = 2_147_483_648;
 
 /// The most bytes that a name may have.
 const LONGEST: usize = 24;
@@ -38,34 +39,13 @@ fn blanks(rest: &[u8]) -> usize
         .count()
 }
 
-/// From `start` on, where the next token stands; or where a comment is left open.
-fn gap_end(text: &[u8], start: usize) -> Result<usize, usize>
-    requires { start ≤ length text.now }
-    ensures { result ≡ gap None (drop start text.now) start }
-{
-    let mut place = start;
-    loop {
-        place += blanks(&text[place..]);
-        if text.get(place) != Some(&b'{') {
-            return Ok(place);
-        }
-        let close = text[place..].iter().position(|b| *b == b'}').ok_or(place)?;
-        place += close + 1;
-    }
-}
-
 /// The number that decimal digits spell, if it is at most 2,147,483,648.
 fn magnitude(digits: &[u8]) -> Option<u32>
+    requires { Digits digits.now }
     ensures { result ≡ magnitude_of digits.now }
 {
-    let mut value: u64 = 0;
-    for b in digits {
-        value = value * 10 + u64::from(b.saturating_sub(b'0'));
-        if value > LARGEST {
-            return None;
-        }
-    }
-    Some(value as u32)
+    let value = str::from_utf8(digits).ok()?.parse::<u32>();
+    value.ok().filter(|value| *value <= LARGEST)
 }
 
 /// The keyword or the name that a word is.
@@ -81,6 +61,7 @@ fn word<'a>(bytes: &'a [u8]) -> Result<Token<&'a [u8]>, LexFault>
 
 /// The number that decimal digits spell.
 fn number<'a>(digits: &'a [u8]) -> Result<Token<&'a [u8]>, LexFault>
+    requires { Digits digits.now }
     ensures { meant result ≡ number_means (magnitude_of digits.now) }
 {
     let value = magnitude(digits).ok_or(LexFault::NumberTooLarge)?;
@@ -138,35 +119,45 @@ impl<'a> Lexer<'a> {
         Lexer { source, place: 0 }
     }
 
+    /// What is left of the text.
+    fn rest(&self) -> &'a [u8]
+        ensures { result.now ≡ drop self.now.place self.now.source.now }
+    {
+        &self.source[self.place..]
+    }
+
+    /// Moves past blanks and whole comments, and stays at a comment that is left open.
+    fn skip_gap(&mut self) -> Result<(), LexFault>
+        ensures gap { let reached = gap None (drop self.old.place self.old.source.now) self.old.place in MatchResult result (λ u. reached ≡ Ok self.new.place) (λ f. (f ≡ LexFault.CommentOpen) × (reached ≡ Err self.new.place)) }
+        ensures source { self.new.source ≡ self.old.source }
+    {
+        loop {
+            self.place += blanks(self.rest());
+            if self.source.get(self.place) != Some(&b'{') {
+                return Ok(());
+            }
+            let close = self.rest().iter().position(|b| *b == b'}');
+            self.place += close.ok_or(LexFault::CommentOpen)? + 1;
+        }
+    }
+
     /// Takes the next token.
     pub fn next_token(&mut self) -> Result<Placed<Token<&'a [u8]>>, Placed<LexFault>>
         ensures stepped { Stepped self.old.source.now self.old.place (answered result) self.new.place }
         ensures source { self.new.source ≡ self.old.source }
     {
-        let place = match gap_end(self.source, self.place) {
-            Ok(place) => place,
-            Err(place) => {
-                self.place = place;
-                return Err(Placed {
-                    item: LexFault::CommentOpen,
-                    place,
-                });
-            }
-        };
-        self.place = place;
-        if place == self.source.len() {
+        let skipped = self.skip_gap();
+        let place = self.place;
+        skipped.map_err(|item| Placed { item, place })?;
+        if self.rest().is_empty() {
             return Ok(Placed {
                 item: Token::End,
                 place,
             });
         }
-        match token_at(&self.source[place..]) {
-            Ok((item, width)) => {
-                self.place = place + width;
-                Ok(Placed { item, place })
-            }
-            Err(item) => Err(Placed { item, place }),
-        }
+        let (item, width) = token_at(self.rest()).map_err(|item| Placed { item, place })?;
+        self.place += width;
+        Ok(Placed { item, place })
     }
 }
 

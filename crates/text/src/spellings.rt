@@ -186,12 +186,7 @@ const SIGNS: [Sign; 17] = [
 fn spelled_by<S: Spelled>(all: &[S], bytes: &[u8]) -> Option<S>
     ensures { result ≡ whose S.spelled all.now bytes.now }
 {
-    for s in all {
-        if s.spelling() == bytes {
-            return Some(*s);
-        }
-    }
-    None
+    all.iter().copied().find(|s| s.spelling() == bytes)
 }
 
 /// The keyword that a word spells.

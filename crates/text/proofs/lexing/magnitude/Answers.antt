@@ -1,21 +1,16 @@
-use Rattle.std.proofs.Common.{◌+◌, drop, sym, ◌∙◌}
-use Rattle.text.proofs.Numbers.{value_more, value_all, magnitude_small, magnitude_large}
+use Rattle.std.proofs.Common.{◌≡◌, leb, None, MatchOption, sym, ◌∙◌, rules}
+use Rattle.std.specs.Bool.{then_some}
+use Rattle.std.specs.Result.{result_ok}
+use Rattle.text.proofs.Numbers.{digits_text, magnitude_read}
 use Rattle.text.proofs.lexing.magnitude.Goals as goal
 
-pub loop-b-preserved : goal.loop-b-preserved
-loop-b-preserved c = (
-  value_more c.loop-b.value c.from.result c.args.digits.now c.loop-b.b-index c.loop-b-test.true (c.from.ensures ∙ c.saturating_sub.ensures) ∙ c.loop-b.invariant.0,
-  c.if-value-gt-LARGEST.false,
-)
+-- digits are text
+pub returns-in_err-ok : goal.returns-in_err-ok
+returns-in_err-ok c =
+    absurd (digits_text _ _ c.args.digits.now c.from_utf8.result c.requires c.from_utf8.ensures.cases (sym c.ok.ensures.value ∙ c.in_err-ok.was))
 
 pub returns : goal.returns
 returns c =
-    magnitude_small c.loop-b.value c.args.digits.now
-    (sym (value_all c.loop-b.value c.args.digits.now c.loop-b.b-index c.loop-b-test.false) ∙ c.loop-b.invariant.0)
-    c.loop-b.invariant.1
-
-pub returns-then-value-gt-LARGEST : goal.returns-then-value-gt-LARGEST
-returns-then-value-gt-LARGEST c =
-    magnitude_large _ c.args.digits.now (drop (c.loop-b.b-index + 1) c.args.digits.now)
-    (value_more c.loop-b.value c.from.result c.args.digits.now c.loop-b.b-index c.loop-b-test.true (c.from.ensures ∙ c.saturating_sub.ensures) ∙ c.loop-b.invariant.0)
-    c.if-value-gt-LARGEST.true
+    let same : c.in_ok-ok.field-0.now ≡ c.args.digits.now = search rules in
+    let h : MatchOption (result_ok c.parse-value.result) (c.filter.result ≡ None) (λ x. c.filter.result ≡ then_some (leb x 2147483648) x) = search rules in
+    magnitude_read c.args.digits.now c.parse-value.result c.filter.result c.requires (rw same at c.parse-value.ensures.value.0) h

@@ -12,7 +12,7 @@ use Rattle.text.specs.declared.classes.ByteClass.TheVariants as class
 use Rattle.text.specs.declared.tokens.Token.TheVariants as token
 use Rattle.text.specs.Lexemes.{part, digit}
 use Rattle.text.specs.Steps.{sized, meant, taken}
-use Rattle.text.proofs.Fronts.{front_word, front_number, front_sign, front_none, front_unknown}
+use Rattle.text.proofs.Fronts.{front_word, front_digits, front_number, front_sign, front_none, front_unknown}
 use Rattle.text.proofs.lexing.token_at.Goals as goal
 
 pub returns-in-Letter : goal.returns-in-Letter
@@ -60,3 +60,11 @@ returns-in-Other c =
       | inr (inl e) ↦ sym (front_unknown c.args.rest.now class.Blank (k ∙ e) refl refl refl)
       | inr (inr e) ↦ sym (front_unknown c.args.rest.now class.Brace (k ∙ e) refl refl refl)
     ]
+
+pub number-requires : goal.number-requires
+number-requires c =
+    let n : c.count-n-in-Digit.result ≡ prefix_len digit c.args.rest.now =
+    count_from_yields_List c.take_while-in-Digit.result _ c.count-n-in-Digit.ensures.ran
+    (YieldsList-from_take_while _ digit (YieldsList-from_slice c.args.rest.now cc) c.take_while-in-Digit.ensures.closure c.take_while-in-Digit.ensures.done (λ x b q k. search (rules, tests)))
+    ∙ length-prefix_len digit c.args.rest.now in
+    front_digits c.args.rest.now c.count-n-in-Digit.result c.requires (sym c.class_of.ensures ∙ c.in-Digit.is) n
