@@ -65,11 +65,6 @@ gap_shut start (b ∷ bs) i h = go (eqb b 125) refl (gap_shut start bs (i + 1))
         ∙ ap (gap None (drop (suc (prefix_len inside bs)) bs)) later
         ∙ ap (λ j. gap None (drop (suc j) (b ∷ bs)) (i + suc j)) (sym n)
 
--- a token or the end
-pub gap_none : (xs : List ℕ) (i : ℕ) → length xs ≡ 0 → gap None xs i ≡ Ok i
-gap_none [] i h = refl
-gap_none (b ∷ bs) i h = absurd (omega arith)
-
 -- From a place p of a text: n blanks on.
 pub past_blanks : (text : List ℕ) (p n : ℕ) → n ≡ prefix_len blank (drop p text) → gap None (drop p text) p ≡ gap None (drop (p + n) text) (p + n)
 past_blanks text p n e =

@@ -15,15 +15,6 @@ run_none p b bs e = ap (λ t. cond t (1 + prefix_len p bs) 0) e
 pub tail : (xs : List ℕ) (p : ℕ) → take (length xs - p) (drop p xs) ≡ drop p xs
 tail xs p = let d = length-drop p xs in take_all (length xs - p) (drop p xs) (omega arith)
 
-pub run_tail : (q : ℕ → Bool) (xs : List ℕ) (p n : ℕ) → n ≡ prefix_len q (take (length xs - p) (drop p xs)) → n ≡ prefix_len q (drop p xs)
-run_tail q xs p n e = e ∙ ap (prefix_len q) (tail xs p)
-
-pub within_tail : (xs : List ℕ) (p n : ℕ) → p ≤ length xs → n ≤ length (take (length xs - p) (drop p xs)) → p + n ≤ length xs
-within_tail xs p n h k =
-    let d = length-drop p xs in
-    let t = ap length (tail xs p) in
-    omega arith
-
 -- what a run is: bytes that pass, and as many as can be
 pub run_each : (p : ℕ → Bool) (xs : List ℕ) → Each p (take (prefix_len p xs) xs)
 run_each p [] = tt

@@ -128,23 +128,6 @@ lawful text i = go (gap None (drop i text) i) refl
     go (Ok p) e = skipped p (subst (Came None i (drop i text)) e (came None (drop i text) i))
     go (Err p) e = opened p (subst (Came None i (drop i text)) e (came None (drop i text) i))
 
--- the place after blanks and comments lies within the text
-pub gap_ok_within : (text : List ℕ) (i p : ℕ) → i ≤ length text → gap None (drop i text) i ≡ Ok p → (i ≤ p) × (p ≤ length text)
-gap_ok_within text i p h e =
-    let s = subst (Came None i (drop i text)) e (came None (drop i text) i) in
-    let k = s.place in
-    let n = ap length s.whole ∙ length-append s.before s.rest in
-    let d = length-drop i text in
-    (omega arith, omega arith)
-
-pub gap_err_within : (text : List ℕ) (i p : ℕ) → i ≤ length text → gap None (drop i text) i ≡ Err p → (i ≤ p) × (p ≤ length text)
-gap_err_within text i p h e =
-    let s = subst (Came None i (drop i text)) e (came None (drop i text) i) in
-    let k = s.place in
-    let n = ap length s.whole ∙ length-append s.before s.rest in
-    let d = length-drop i text in
-    (omega arith, omega arith)
-
 -- A step by what is found on the way: a comment left open,
 pub step_open : (text : List ℕ) (i p : ℕ) → gap None (drop i text) i ≡ Err p → step text i ≡ record { answer = Err (at CommentOpen p); after = p }
 unfolding step
