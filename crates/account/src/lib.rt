@@ -15,7 +15,7 @@ use text::places::Placed;
 use text::tokens::LexFault;
 
 /// Why a script is refused.
-#[derive(Clone, Copy)]
+#[derive(Clone, Copy, PartialEq, Eq, Debug)]
 pub enum Refusal {
     TextTooLong,
     Lexical(LexFault),
@@ -32,32 +32,18 @@ impl Fault for Refusal {
     }
 }
 
-/// What the bench says of a script.
-#[derive(Clone, Copy)]
-pub enum Account {
-    /// All of it is tokens, so many.
-    Tokens(usize),
-    Refused(Placed<Refusal>),
-}
-
-/// Screens a script: it is short enough, and all of it is tokens.
-pub fn screen(script: &[u8]) -> Account
+/// Screens a script: it is short enough, and all of it is tokens, so many.
+pub fn screen(script: &[u8]) -> Result<usize, Placed<Refusal>>
     ensures answer { result ≡ screened script.now }
     ensures lawful { Screened script.now result }
 {
     if script.len() > TEXT_LIMIT {
-        return Account::Refused(Placed {
+        return Err(Placed {
             item: Refusal::TextTooLong,
             place: 0,
         });
     }
-    match count_tokens(script) {
-        Ok(count) => Account::Tokens(count),
-        Err(fault) => Account::Refused(Placed {
-            item: Refusal::Lexical(fault.item),
-            place: fault.place,
-        }),
-    }
+    count_tokens(script).map_err(|fault| fault.map(Refusal::Lexical))
 }
 
 /// The line of account of a script, as the bench prints it.
@@ -65,12 +51,8 @@ pub fn report(heap: Global, script: &[u8]) -> Result<String, AllocError>
     ensures { IfOk result (λ s. string_bytes s ≡ line (screened script.now)) }
 {
     match screen(script) {
-        Account::Tokens(count) => format!(in heap; "tokens {count}\n"),
-        Account::Refused(refusal) => {
-            let number = refusal.item.number();
-            let place = refusal.place;
-            format!(in heap; "refused {number} {place}\n")
-        }
+        Ok(count) => format!(in heap; "tokens {count}\n"),
+        Err(refusal) => format!(in heap; "{refusal}\n"),
     }
 }
 

@@ -1,5 +1,5 @@
 -- Tokens by their bytes, and the numbers of what is no token.
-use Rattle.std.specs.Prelude.{ℕ, Bool, true, false, List, Result}
+use Rattle.std.specs.Prelude.{ℕ, Bool, true, false, List, ◌++◌, codes, decimal, Result}
 use Rattle.std.specs.Borrow.{Bor}
 use Rattle.text.specs.declared.places.Placed.{Placed}
 use Rattle.text.specs.declared.tokens.LexFault.{LexFault}
@@ -13,6 +13,10 @@ fault_number NoToken = 11
 fault_number CommentOpen = 12
 fault_number NumberTooLarge = 13
 fault_number NameTooLong = 14
+
+-- a refusal as the programs print it, by its number and its place
+abbrev pub refused_at : ℕ → ℕ → List ℕ
+refused_at n p = codes "refused " ++ (decimal n ++ (codes " " ++ decimal p))
 
 -- the end is no token of the text itself
 abbrev pub is_end : {N : Type 0} → Token N → Bool

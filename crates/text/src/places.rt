@@ -1,5 +1,9 @@
 //! Where an item stands in a text.
-ghost use Rattle.std.specs.Prelude.{◌≡◌};
+ghost use Rattle.std.specs.Prelude.{◌≡◌, Some};
+ghost use Rattle.text.specs.Tokens.{refused_at};
+
+use refusals::Fault;
+use std::fmt;
 
 /// An item with the offset of its first byte.
 #[derive(Clone, Copy, PartialEq, Eq, Debug)]
@@ -19,5 +23,16 @@ impl<T> Placed<T> {
             item: f(self.item),
             place: self.place,
         }
+    }
+}
+
+/// A refusal as the programs print it: its number and its place.
+impl<F: Fault> fmt::Display for Placed<F> {
+    ghost output = { λ p. Some (refused_at (F.number p.item) p.place) };
+
+    fn fmt<W: fmt::Write>(&self, f: &mut fmt::Formatter<W>) -> fmt::Result {
+        let number = self.item.number();
+        let place = self.place;
+        write!(f, "refused {number} {place}")
     }
 }
