@@ -1,60 +1,44 @@
 //! The tokens of a text, a line for each.
-use refusals::Fault;
-use std::alloc::{AllocError, Global};
+use std::alloc::Global;
+use std::io;
+use std::io::Write;
 use text::lexing::Lexer;
 use text::places::Placed;
 use text::spellings::Spelled;
-use text::tokens::{LexFault, Token};
+use text::tokens::Token;
 
-/// One line: the place, the kind with a blank where bytes follow, and the bytes.
-fn entry(
-    heap: Global,
-    out: &mut Vec<u8>,
-    place: usize,
-    kind: &str,
-    bytes: &[u8],
-) -> Result<(), AllocError> {
-    let head = format!(in heap; "{place} {kind}")?;
-    out.extend_from_slice(head.as_bytes())?;
-    out.extend_from_slice(bytes)?;
-    out.push(b'\n')?;
-    Ok(())
+/// One line: the place, the kind, and the bytes.
+fn entry(out: &mut Vec<u8>, place: usize, kind: &str, bytes: &[u8]) -> io::Result<()> {
+    write!(out, "{place} {kind} ")?;
+    out.write_all(bytes)?;
+    out.write_all(b"\n")
 }
 
-fn list_token(
-    heap: Global,
-    out: &mut Vec<u8>,
-    token: Placed<Token<&[u8]>>,
-) -> Result<(), AllocError> {
+fn list_token(out: &mut Vec<u8>, token: Placed<Token<&[u8]>>) -> io::Result<()> {
+    let place = token.place;
     match token.item {
-        Token::Word(keyword) => entry(heap, out, token.place, "word ", keyword.spelling()),
-        Token::Name(name) => entry(heap, out, token.place, "name ", name),
-        Token::Number(value) => {
-            let digits = value.to_string(heap)?;
-            entry(heap, out, token.place, "number ", digits.as_bytes())
-        }
-        Token::Sign(sign) => entry(heap, out, token.place, "sign ", sign.spelling()),
-        Token::End => entry(heap, out, token.place, "end", b""),
+        Token::Word(keyword) => entry(out, place, "word", keyword.spelling()),
+        Token::Name(name) => entry(out, place, "name", name),
+        Token::Number(value) => writeln!(out, "{place} number {value}"),
+        Token::Sign(sign) => entry(out, place, "sign", sign.spelling()),
+        Token::End => writeln!(out, "{place} end"),
     }
 }
 
 /// The tokens of a text up to its end or a refusal.
-pub fn listed(heap: Global, source: &[u8]) -> Result<Vec<u8>, AllocError> {
+pub fn listed(heap: Global, source: &[u8]) -> io::Result<Vec<u8>> {
     let mut out = Vec::new(heap);
     let mut lexer = Lexer::new(source);
     loop {
         match lexer.next_token() {
             Ok(token) => {
-                list_token(heap, &mut out, token)?;
+                list_token(&mut out, token)?;
                 if let Token::End = token.item {
                     return Ok(out);
                 }
             }
-            Err(fault) => {
-                let number = fault.item.number();
-                let place = fault.place;
-                let line = format!(in heap; "refused {number} {place}\n")?;
-                out.extend_from_slice(line.as_bytes())?;
+            Err(refusal) => {
+                writeln!(out, "{refusal}")?;
                 return Ok(out);
             }
         }

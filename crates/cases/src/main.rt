@@ -4,8 +4,7 @@
 mod files;
 mod listing;
 
-use anyhow::anyhow;
-use files::{number, part};
+use files::{Case, CaseFile};
 use listing::listed;
 use std::io::Read;
 
@@ -17,37 +16,25 @@ struct Tally {
 }
 
 /// Runs one case: whether its text is taken apart as it should be.
-fn agrees(rt: &HostRuntime, script: &[u8], tokens: &[u8]) -> anyhow::Result<bool> {
-    let found = listed(rt.alloc(), script)?;
-    Ok(found.as_slice() == tokens)
+fn agrees(rt: &HostRuntime, case: Case<'_>) -> anyhow::Result<bool> {
+    let found = listed(rt.alloc(), case.script)?;
+    Ok(found.as_slice() == case.tokens)
 }
 
-/// Runs the cases of a file, each of which takes a byte at least.
+/// Runs the cases of a file.
 fn run(rt: &HostRuntime, file: &[u8]) -> anyhow::Result<()> {
+    let mut file = CaseFile::new(file);
     let mut tally = Tally {
         cases: 0,
         differ: 0,
     };
-    let mut rest = file;
-    for _ in 0..file.len() {
-        let Some((case, after)) = number(rest, b"case ") else {
-            break;
-        };
-        let Some((script, after)) = part(after, b"script ") else {
-            return Err(anyhow!("a case without a script"));
-        };
-        let Some((tokens, after)) = part(after, b"tokens ") else {
-            return Err(anyhow!("a case without tokens"));
-        };
-        rest = after;
+    while let Some(case) = file.next_case()? {
         tally.cases = tally.cases.saturating_add(1);
-        if !agrees(rt, script, tokens)? {
+        if !agrees(rt, case)? {
             tally.differ = tally.differ.saturating_add(1);
-            println!(rt; "case {case} differs: tokens")?;
+            let number = case.number;
+            println!(rt; "case {number} differs: tokens")?;
         }
-    }
-    if !rest.is_empty() {
-        return Err(anyhow!("what follows the last case is no case"));
     }
     let Tally { cases, differ } = tally;
     println!(rt; "{cases} cases, {differ} differ")?;
