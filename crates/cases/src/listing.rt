@@ -1,4 +1,9 @@
 //! The tokens of a text, a line for each.
+ghost use Rattle.std.specs.Prelude.{◌≡◌, ◌++◌, OnOk, IfOk};
+ghost use Rattle.cases.specs.Listings.{entry, token_line, listing};
+ghost use Rattle.text.specs.Lexings.{lexed};
+ghost use Rattle.text.specs.Tokens.{lexeme};
+
 use std::alloc::Global;
 use std::io;
 use std::io::Write;
@@ -8,13 +13,17 @@ use text::spellings::Spelled;
 use text::tokens::Token;
 
 /// One line: the place, the kind, and the bytes.
-fn entry(out: &mut Vec<u8>, place: usize, kind: &str, bytes: &[u8]) -> io::Result<()> {
+fn entry(out: &mut Vec<u8>, place: usize, kind: &str, bytes: &[u8]) -> io::Result<()>
+    ensures { OnOk result (out.new.items ≡ out.old.items ++ entry place kind.now bytes.now) }
+{
     write!(out, "{place} {kind} ")?;
     out.write_all(bytes)?;
     out.write_all(b"\n")
 }
 
-fn list_token(out: &mut Vec<u8>, token: Placed<Token<&[u8]>>) -> io::Result<()> {
+fn list_token(out: &mut Vec<u8>, token: Placed<Token<&[u8]>>) -> io::Result<()>
+    ensures { OnOk result (out.new.items ≡ out.old.items ++ token_line token.entry.place (lexeme token.entry.item)) }
+{
     let place = token.place;
     match token.item {
         Token::Word(keyword) => entry(out, place, "word", keyword.spelling()),
@@ -26,7 +35,9 @@ fn list_token(out: &mut Vec<u8>, token: Placed<Token<&[u8]>>) -> io::Result<()> 
 }
 
 /// The tokens of a text up to its end or a refusal.
-pub fn listed(heap: Global, source: &[u8]) -> io::Result<Vec<u8>> {
+pub fn listed(heap: Global, source: &[u8]) -> io::Result<Vec<u8>>
+    ensures { IfOk result (λ v. v.items ≡ listing (lexed source.now)) }
+{
     let mut out = Vec::new(heap);
     let mut lexer = Lexer::new(source);
     loop {
