@@ -1,6 +1,10 @@
 //! Runs a file of cases through the library, and says which come out otherwise than they should.
 #![tactic(auto)]
 
+ghost use Rattle.std.specs.Prelude.{◌≡◌, ◌↔◌, IfOk, IsTrue};
+ghost use Rattle.cases.specs.Listings.{listing};
+ghost use Rattle.text.specs.Lexings.{lexed};
+
 mod files;
 mod listing;
 
@@ -16,7 +20,9 @@ struct Tally {
 }
 
 /// Runs one case: whether its text is taken apart as it should be.
-fn agrees(rt: &HostRuntime, case: Case<'_>) -> anyhow::Result<bool> {
+fn agrees(rt: &HostRuntime, case: Case<'_>) -> anyhow::Result<bool>
+    ensures { IfOk result (λ b. IsTrue b ↔ listing (lexed case.entry.script.now) ≡ case.entry.tokens.now) }
+{
     let found = listed(rt.alloc(), case.script)?;
     Ok(found.as_slice() == case.tokens)
 }
