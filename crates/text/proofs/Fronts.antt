@@ -2,6 +2,7 @@
 use Rattle.std.proofs.Common.{◌≡◌, ℕ, suc, ◌<◌, Bool, true, false, cond, ◌||◌, List, [], ◌∷◌, length, get_or, take, Some, None, Ok, Err, Option, Result, sym, refl, ap, ◌∙◌, subst, arith}
 use Rattle.std.specs.List.{prefix_len}
 use Rattle.std.proofs.lemmas.Bool.{both_ways}
+use Rattle.std.proofs.lemmas.Option.{none-some}
 use Rattle.text.specs.declared.classes.ByteClass.{ByteClass}
 use Rattle.text.specs.declared.classes.ByteClass.TheVariants as class
 use Rattle.text.specs.declared.spellings.Sign.{Sign}
@@ -15,7 +16,6 @@ use Rattle.text.specs.Spellings.{keyword_of, sign_at, sign_of, spelled_sign}
 use Rattle.text.specs.Steps.{sized, front}
 use Rattle.text.specs.Tokens.{Lexeme}
 use Rattle.text.proofs.Runs.{run_some, run_each}
-use Rattle.text.proofs.Spelled.{none_some}
 use Rattle.text.proofs.Signs.{signed, sign_front, sign_class_lem}
 
 abbrev pub width_by : Bool → Bool → List ℕ → ℕ
@@ -36,7 +36,7 @@ meaning_by_lem b bs l d e f = ap (λ t. meaning_by t (digit b) (b ∷ bs)) e ∙
 sign_empty : (o : Option Sign) → sign_at [] ≡ o → sized 0 (meaning []) ≡ sized (sign_width o) (meaning (take (sign_width o) []))
 unfolding sign_at sign_of meaning
 sign_empty None e = refl
-sign_empty (Some s) e = absurd (none_some s e)
+sign_empty (Some s) e = absurd (none-some s e)
 
 -- where a run of bytes from the first on is the token
 front_run : (p : ℕ → Bool) (b : ℕ) (bs : List ℕ) (l d : Bool) (n m : ℕ) → letter b ≡ l → digit b ≡ d → p b ≡ true → width_by l d (b ∷ bs) ≡ prefix_len p (b ∷ bs) → n ≡ prefix_len p (b ∷ bs) → m ≡ n → front (b ∷ bs) ≡ sized n (meaning_by l d (take m (b ∷ bs)))

@@ -4,7 +4,7 @@ use Rattle.std.specs.List.{prefix_len, position, HoldsAt}
 use Rattle.std.specs.Option.{option_eq}
 use Rattle.std.proofs.lemmas.List.Sums.{prefix_len-drop_yes, prefix_len-le-length, prefix_len_stops}
 use Rattle.std.proofs.lemmas.List.{at_drop_more, at_drop_all, drop-drop, length-drop, get_or-drop}
-use Rattle.std.proofs.lemmas.Bool.{ne_eqb, eqb-true, eqb-false, ltb-true, ltb-false, both_ways}
+use Rattle.std.proofs.lemmas.Bool.{not-true, not-false, ne_eqb, eqb-true, eqb-false, ltb-true, ltb-false, both_ways}
 use Rattle.text.specs.Classes.{class_of}
 use Rattle.text.specs.Lexemes.{blank, inside}
 use Rattle.text.specs.Steps.{gap}
@@ -138,22 +138,14 @@ after_blanks text p n e h =
     ∙ ap (λ k. blank (get_or (drop p text) k 0)) e
     ∙ prefix_len_stops blank (drop p text) 0 (omega arith)
 
-pub not_inside : (t : Bool) → not t ≡ true → t ≡ false
-not_inside true e = sym e
-not_inside false e = refl
-
-when_not : (t : Bool) → not t ≡ false → t ≡ true
-when_not true e = refl
-when_not false e = sym e
-
 -- what the byte at q is, read as an option
 abbrev pub ReadAt : List ℕ → ℕ → Option (Bor ℕ) → Type 0
 ReadAt text q o = MatchOption o (length text ≤ q) (λ x. (q < length text) × HoldsAt (λ y. x.now ≡ y) text q)
 
 pub brace_read : (text : List ℕ) (q : ℕ) (o : Option (Bor ℕ)) (k : Bor ℕ) → ReadAt text q o → k.now ≡ 123 → not (option_eq (λ x y. eqb x.now y.now) o (Some k)) ≡ false → (q < length text) × (get_or text q 0 ≡ 123)
 brace_read text q None k h b e = absurd (both_ways true e refl)
-brace_read text q (Some x) k h b e = (h.0, sym (h.1 0) ∙ eqb-true x.now k.now (when_not (eqb x.now k.now) e) ∙ b)
+brace_read text q (Some x) k h b e = (h.0, sym (h.1 0) ∙ eqb-true x.now k.now (not-false (eqb x.now k.now) e) ∙ b)
 
 pub gap_past : (text : List ℕ) (q : ℕ) (o : Option (Bor ℕ)) (k : Bor ℕ) → ReadAt text q o → k.now ≡ 123 → (q < length text → blank (get_or text q 0) ≡ false) → not (option_eq (λ x y. eqb x.now y.now) o (Some k)) ≡ true → gap None (drop q text) q ≡ Ok q
 gap_past text q None k h b n e = gap_end text q h
-gap_past text q (Some x) k h b n e = gap_token text q h.0 (n h.0) (λ g. eqb-false x.now k.now (not_inside (eqb x.now k.now) e) (h.1 0 ∙ g ∙ sym b))
+gap_past text q (Some x) k h b n e = gap_token text q h.0 (n h.0) (λ g. eqb-false x.now k.now (not-true (eqb x.now k.now) e) (h.1 0 ∙ g ∙ sym b))

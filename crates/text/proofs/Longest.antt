@@ -4,6 +4,7 @@ use Rattle.std.proofs.lemmas.List.{take-append-drop, length-take-le, length-take
 use Rattle.std.specs.List.{prefix_len}
 use Rattle.std.proofs.lemmas.List.Sums.{prefix_len-le-length}
 use Rattle.std.proofs.lemmas.Bool.{eqb-true, or_left, both_ways}
+use Rattle.std.proofs.lemmas.Option.{same_Some, none-some}
 use Rattle.text.specs.declared.spellings.Sign.{Sign}
 use Rattle.text.specs.Classes.{class_of, class_number}
 use Rattle.text.specs.Laws.{Each, Shaped, Longest, Shapeless}
@@ -12,7 +13,6 @@ use Rattle.text.specs.Spellings.{spelled_sign, sign_at}
 use Rattle.text.proofs.Fronts.{width_by_lem}
 use Rattle.text.proofs.Runs.{run_some, run_each, run_most}
 use Rattle.text.proofs.Signs.{signed, sign_front, sign_longest}
-use Rattle.text.proofs.Spelled.{some_same, none_some}
 
 -- nothing has no shape
 pub never_empty : Shaped [] → ⊥
@@ -111,7 +111,7 @@ sign_widest : (b : ℕ) (bs : List ℕ) (n : ℕ) (o : Option Sign) → letter b
 sign_widest b bs n None l d e k = (
   omega arith,
   (
-    (λ z v more s h. let (r, f, m) = signs_most b bs v more l d s h in none_some r (sym e ∙ f)),
+    (λ z v more s h. let (r, f, m) = signs_most b bs v more l d s h in none-some r (sym e ∙ f)),
     (λ z. absurd (omega arith)),
   ),
 )
@@ -127,7 +127,7 @@ sign_widest b bs n (Some s) l d e k =
             (inr (inr (s, ap (λ j. take j (b ∷ bs)) k ∙ sign_front (b ∷ bs) s e)))
             (λ v more t h.
             let (r, f, m) = signs_most b bs v more l d t h in
-            let same = ap (λ q. length (spelled_sign q)) (some_same r s (sym f ∙ e)) in
+            let same = ap (λ q. length (spelled_sign q)) (same_Some r s (sym f ∙ e)) in
             omega arith)),
       ),
     )

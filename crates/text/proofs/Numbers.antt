@@ -10,10 +10,10 @@ use Rattle.std.proofs.lemmas.Bool.{lt-leb, cases_lt}
 use Rattle.std.proofs.lemmas.Str.{IsUtf8-from_ascii}
 use Rattle.std.proofs.lemmas.Str.Ascii.{IsAscii-nil, IsAscii-cons}
 use Rattle.std.proofs.lemmas.Str.Parse.{IsNumeralModel, numerals_by_fold, parse_digits}
+use Rattle.std.proofs.lemmas.Option.{none-some}
 use Rattle.text.specs.Classes.{class_of}
 use Rattle.text.specs.Laws.{Each, Digits}
 use Rattle.text.specs.Lexemes.{digit, value_from, magnitude_of}
-use Rattle.text.proofs.Spelled.{none_some}
 
 -- a digit is a byte from `0` to `9`
 digit_range : (b : ℕ) → digit b ≡ true → IsInRange 48 57 b
@@ -46,7 +46,7 @@ digits_some (b ∷ bs) h = omega arith
 
 -- they are text
 pub digits_text : {T E : Type 0} (P : T → Type 0) (Q : E → Type 0) (ds : List ℕ) (r : Result T E) → Digits ds → MatchResult r P (λ e. ¬ (IsUtf8 ds) × Q e) → result_ok r ≡ None → ⊥
-digits_text P Q ds (Ok x) h m e = none_some x (sym e)
+digits_text P Q ds (Ok x) h m e = none-some x (sym e)
 digits_text P Q ds (Err f) h m e = m.0 (IsUtf8-from_ascii ds (digits_ascii ds (each_digit ds h)))
 
 then_some_is : (b : Bool) (x : ℕ) → then_some b x ≡ cond b (Some x) None

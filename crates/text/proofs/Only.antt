@@ -2,7 +2,7 @@
 use Rattle.std.proofs.Common.{◌≡◌, ℕ, zero, suc, ◌+◌, ◌-◌, Bool, true, false, cond, eqb, List, [], ◌∷◌, ◌++◌, length, take, drop, Some, None, Ok, Err, Result, sym, refl, ap, ◌∙◌, subst, inl, inr, add-zero, arith}
 use Rattle.std.proofs.lemmas.List.Prefix.{front_rest}
 use Rattle.std.proofs.lemmas.List.{append-nil, length-append, length-take-le, append_assoc, drop_all, take-append-le, take_all}
-use Rattle.std.proofs.lemmas.Bool.{ne_eqb, eqb-true, both_ways}
+use Rattle.std.proofs.lemmas.Bool.{not-true, ne_eqb, eqb-true, both_ways}
 use Rattle.text.specs.declared.places.Placed.{Placed}
 use Rattle.text.specs.declared.tokens.LexFault.{LexFault}
 use Rattle.text.specs.declared.tokens.LexFault.TheVariants.{NoToken, CommentOpen, NumberTooLarge, NameTooLong}
@@ -12,7 +12,6 @@ use Rattle.text.specs.Laws.{Each, Between, Unclosed, Shaped, Longest, Shapeless,
 use Rattle.text.specs.Lexemes.{inside, meaning, width}
 use Rattle.text.specs.Steps.{gap, at, Step, took, step_at}
 use Rattle.text.specs.Tokens.{Lexeme, is_end, Answer, Verdict}
-use Rattle.text.proofs.Gaps.{not_inside}
 use Rattle.text.proofs.Longest.{widest, shaped_some, never_empty, sign_head}
 use Rattle.text.proofs.Steps.{step_solid, takes_token, nothing_means}
 
@@ -20,7 +19,7 @@ use Rattle.text.proofs.Steps.{step_solid, takes_token, nothing_means}
 comment_through : (start : ℕ) (c more : List ℕ) (i : ℕ) → Each inside c → gap (Some start) (c ++ (125 ∷ more)) i ≡ gap None more (i + suc (length c))
 comment_through start [] more i h = refl
 comment_through start (b ∷ bs) more i (e, h) =
-    let k : eqb b 125 ≡ false = not_inside (eqb b 125) e in
+    let k : eqb b 125 ≡ false = not-true (eqb b 125) e in
     let j : i + 1 + suc (length bs) ≡ i + suc (suc (length bs)) = omega arith in
     ap (λ t. cond t (gap None (bs ++ (125 ∷ more)) (i + 1)) (gap (Some start) (bs ++ (125 ∷ more)) (i + 1))) k
     ∙ comment_through start bs more (i + 1) h
@@ -54,7 +53,7 @@ gap_solid (b ∷ bs) i (e, h) =
 comment_over : (start : ℕ) (c : List ℕ) (i : ℕ) → Each inside c → gap (Some start) c i ≡ Err start
 comment_over start [] i h = refl
 comment_over start (b ∷ bs) i (e, h) =
-    ap (λ t. cond t (gap None bs (i + 1)) (gap (Some start) bs (i + 1))) (not_inside (eqb b 125) e) ∙ comment_over start bs (i + 1) h
+    ap (λ t. cond t (gap None bs (i + 1)) (gap (Some start) bs (i + 1))) (not-true (eqb b 125) e) ∙ comment_over start bs (i + 1) h
 
 gap_unclosed : (rest : List ℕ) (i : ℕ) → Unclosed rest → gap None rest i ≡ Err i
 unfolding class_of

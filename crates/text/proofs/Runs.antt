@@ -1,7 +1,6 @@
 -- The longest front whose bytes pass a test: what it is.
-use Rattle.std.proofs.Common.{◌≡◌, ℕ, suc, ◌+◌, ◌-◌, ◌≤◌, Bool, true, false, cond, List, [], ◌∷◌, ◌++◌, length, take, drop, sym, refl, ap, ◌∙◌, subst, one-add, arith}
+use Rattle.std.proofs.Common.{◌≡◌, ℕ, suc, ◌+◌, ◌≤◌, Bool, true, false, cond, List, [], ◌∷◌, ◌++◌, length, take, sym, refl, ap, ◌∙◌, subst, one-add, arith}
 use Rattle.std.specs.List.{prefix_len}
-use Rattle.std.proofs.lemmas.List.{take_all, length-drop}
 use Rattle.text.specs.Laws.{Each}
 
 -- by its first byte
@@ -10,10 +9,6 @@ run_some p b bs e = ap (λ t. cond t (1 + prefix_len p bs) 0) e ∙ one-add (pre
 
 pub run_none : (p : ℕ → Bool) (b : ℕ) (bs : List ℕ) → p b ≡ false → prefix_len p (b ∷ bs) ≡ 0
 run_none p b bs e = ap (λ t. cond t (1 + prefix_len p bs) 0) e
-
--- a slice from p to the end of a text
-pub tail : (xs : List ℕ) (p : ℕ) → take (length xs - p) (drop p xs) ≡ drop p xs
-tail xs p = let d = length-drop p xs in take_all (length xs - p) (drop p xs) (omega arith)
 
 -- what a run is: bytes that pass, and as many as can be
 pub run_each : (p : ℕ → Bool) (xs : List ℕ) → Each p (take (prefix_len p xs) xs)
