@@ -1,5 +1,5 @@
 //! A case file, taken apart from its front on: lines `WORD NUMBER`, and after some so many bytes and a line feed.
-ghost use Rattle.std.specs.Prelude.{ℕ, List, IfSome, IfOk, MatchOption, length, ◌<◌, ◌≡◌};
+ghost use Rattle.std.specs.Prelude.{ℕ, List, IfSome, IfOk, MatchOption, length, ◌≡◌};
 ghost use Rattle.cases.specs.CaseFiles.{Lined, Announced, HasCase};
 
 use anyhow::Context;

@@ -1,5 +1,5 @@
 //! The lexer: a window on a text that moves from token to token.
-ghost use Rattle.std.specs.Prelude.{◌≡◌, ℕ, ◌+◌, ◌<◌, ◌≤◌, length, drop, None, MatchResult};
+ghost use Rattle.std.specs.Prelude.{◌≡◌, ◌<◌, ◌≤◌, length, drop, None, MatchResult};
 ghost use Rattle.std.specs.List.{prefix_len};
 ghost use Rattle.text.specs.Spellings.{keyword_of, sign_at};
 ghost use Rattle.text.specs.Laws.{Digits, Stepped, Counted};
