@@ -20,7 +20,7 @@ pub record Begun (cs : List ℕ) (ts : List (Placed Lexeme)) : Type 0 where
 abbrev pub Headed : Bool → List ℕ → List (Placed Lexeme) → Type 0
 Headed null cs ts = ((ts ≡ []) × (null ≡ true)) ⊎ Begun cs ts
 
-one_class : (c : ℕ) (cs : List ℕ) (x : Of c) → among (c ∷ cs) (class_of x.0.item) ≡ true
+pub one_class : (c : ℕ) (cs : List ℕ) (x : Of c) → among (c ∷ cs) (class_of x.0.item) ≡ true
 one_class c cs x = or_left (eqb (class_of x.0.item) c) (among cs (class_of x.0.item)) x.1
 
 begun_more : (cs ds : List ℕ) (a b : List (Placed Lexeme)) → Begun cs a → Begun (cs ++ ds) (a ++ b)

@@ -12,7 +12,7 @@ use Rattle.syntax.specs.Syntax.{G, rule}
 use Rattle.reading.specs.declared.readers.Reader.{Reader}
 use Rattle.reading.specs.States.{State, stream_of, state_of, Answer, done, written, Reads, Builds}
 use Rattle.reading.specs.Steps.{front_of, taken}
-use Rattle.reading.proofs.Sequences.{Left, Whole, begin_as, pair, leaf_made}
+use Rattle.reading.proofs.Sequences.{Left, Whole, unit, begin_as, pair, leaf_made}
 
 -- ---- the same, read as a part of something
 
@@ -65,10 +65,6 @@ inject d cl (alt g h) x = inject_by d (among (firsts g) cl) g h (branch_of cl h)
 inject d cl (many g) x = x
 inject d cl (ahead c e g h) x = x
 inject d cl (nest c n) x = x
-
-unit : {X : Type 0} (r : Read X) → r ≡ bind r (λ x s. Ok (x, s))
-unit (Ok p) = refl
-unit (Err e) = refl
 
 twice : {X Y Z : Type 0} (f : X → Y) (g : Y → Z) (r : Read X) → bind (bind r (λ x s. Ok (f x, s))) (λ y s. Ok (g y, s)) ≡ bind r (λ x s. Ok (g (f x), s))
 twice f g (Ok p) = refl

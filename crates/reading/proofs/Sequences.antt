@@ -180,7 +180,7 @@ pub record Left {Y : Type 0} (R : Read Y) (a m : Reader) (d : ℕ) (g : G) (f : 
 pub record Whole {Y : Type 0} (R : Read Y) (a m : Reader) (y : Y) (ms : List Node) (k : ℕ) : Type 0 where
   pub part : Partly R a m (Ok (y, stream_of m)) ms k
 
-unit : {X : Type 0} (r : Read X) → r ≡ bind r (λ x s. Ok (x, s))
+pub unit : {X : Type 0} (r : Read X) → r ≡ bind r (λ x s. Ok (x, s))
 unit (Ok p) = refl
 unit (Err e) = refl
 
