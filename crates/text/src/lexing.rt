@@ -41,8 +41,7 @@ fn blanks(rest: &[u8]) -> usize
 
 /// The number that decimal digits spell, if it is at most 2,147,483,648.
 fn magnitude(digits: &[u8]) -> Option<u32>
-    requires { Digits digits.now }
-    ensures { result ≡ magnitude_of digits.now }
+    ensures { Digits digits.now → result ≡ magnitude_of digits.now }
 {
     let value = str::from_utf8(digits).ok()?.parse::<u32>();
     value.ok().filter(|value| *value <= LARGEST)
@@ -61,8 +60,7 @@ fn word<'a>(bytes: &'a [u8]) -> Result<Token<&'a [u8]>, LexFault>
 
 /// The number that decimal digits spell.
 fn number<'a>(digits: &'a [u8]) -> Result<Token<&'a [u8]>, LexFault>
-    requires { Digits digits.now }
-    ensures { meant result ≡ number_means (magnitude_of digits.now) }
+    ensures { Digits digits.now → meant result ≡ number_means (magnitude_of digits.now) }
 {
     let value = magnitude(digits).ok_or(LexFault::NumberTooLarge)?;
     Ok(Token::Number(value))

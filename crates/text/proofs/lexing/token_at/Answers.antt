@@ -33,8 +33,9 @@ returns-in-Digit c =
     (YieldsList-from_take_while _ digit (YieldsList-from_slice c.args.rest.now cc) c.take_while-in-Digit.ensures.closure c.take_while-in-Digit.ensures.done (λ x b q k. search (rules, tests)))
     ∙ length-prefix_len digit c.args.rest.now in
     let s : taken c.map-in-Digit.result ≡ sized c.count-n-in-Digit.result (meant c.number.result) = search rules in
+    let digits = front_digits c.args.rest.now c.count-n-in-Digit.result c.requires (sym c.class_of.ensures ∙ c.in-Digit.is) n in
     s
-    ∙ ap (sized c.count-n-in-Digit.result) c.number.ensures
+    ∙ ap (sized c.count-n-in-Digit.result) (c.number.ensures digits)
     ∙ sym (front_number c.args.rest.now c.count-n-in-Digit.result _ c.requires (sym c.class_of.ensures ∙ c.in-Digit.is) n refl)
 
 pub returns-in_ok-sign-in-Sign : goal.returns-in_ok-sign-in-Sign
@@ -60,11 +61,3 @@ returns-in-Other c =
       | inr (inl e) ↦ sym (front_unknown c.args.rest.now class.Blank (k ∙ e) refl refl refl)
       | inr (inr e) ↦ sym (front_unknown c.args.rest.now class.Brace (k ∙ e) refl refl refl)
     ]
-
-pub number-requires : goal.number-requires
-number-requires c =
-    let n : c.count-n-in-Digit.result ≡ prefix_len digit c.args.rest.now =
-    count_from_yields_List c.take_while-in-Digit.result _ c.count-n-in-Digit.ensures.ran
-    (YieldsList-from_take_while _ digit (YieldsList-from_slice c.args.rest.now cc) c.take_while-in-Digit.ensures.closure c.take_while-in-Digit.ensures.done (λ x b q k. search (rules, tests)))
-    ∙ length-prefix_len digit c.args.rest.now in
-    front_digits c.args.rest.now c.count-n-in-Digit.result c.requires (sym c.class_of.ensures ∙ c.in-Digit.is) n
