@@ -51,13 +51,6 @@ refused_by : (c : ℕ) (t : Placed Lexeme) (ts : List (Placed Lexeme)) (v : Verd
 refused_by c t ts v true e h = absurd (both_ways true h refl)
 refused_by c t ts v false e h = refl
 
-pub taken_not : (t : Lexeme) (p : ℕ) (l : Lexing) (c : ℕ) → (is_end t ≡ false → class_of t ≡ c → ⊥) → taken c (stream_by t p l) ≡ Err (misfit_of (stream_by t p l))
-taken_not t p l c n = go (is_end t) refl
-  where
-    go : (b : Bool) → is_end t ≡ b → taken c (cond b (record { tokens = []; verdict = Ok p }) (record { tokens = at t p ∷ l.tokens; verdict = l.verdict })) ≡ Err (misfit_of (cond b (record { tokens = []; verdict = Ok p }) (record { tokens = at t p ∷ l.tokens; verdict = l.verdict })))
-    go true e = refl
-    go false e = refused_by c (at t p) l.tokens l.verdict (is_class c (at t p)) refl (ne_eqb (class_of t) c (n e))
-
 -- what was taken has no node
 unfoldable taken_state : (a b : Reader) → b.table.now ≡ a.table.now → b.count ≡ a.count → state_of b ≡ applied [] (stream_of b) (state_of a)
 unfolding state_of
@@ -83,12 +76,6 @@ took c a b is l w on s =
           };
       steps = (w.1, on);
     }
-
--- the token ahead was not taken, since it is none or of another class
-pub not_taken : (c : ℕ) (a : Reader) {f : Refusal} → f ≡ misfit_of (stream_of a) → (IsAhead c a → ⊥) → Takes (token_made c) (taken c (stream_of a)) a (Err f) a
-not_taken c a m n =
-    let read = taken_not (lexeme a.token) a.place _ c (λ h e. n (h, e)) ∙ ap Err (sym m) in
-    record { reads = record { lends = refl; goes = tt; reads = sym (ap (written (token_made c) (state_of a)) read) }; steps = tt }
 
 -- ---- where no more constructs may be open
 

@@ -1,7 +1,7 @@
 use Rattle.std.proofs.Common.{◌++◌, length, ap, ◌∙◌, arith}
 use Rattle.text.specs.Steps.{at, step}
 use Rattle.text.specs.Tokens.{is_end, lexeme}
-use Rattle.text.proofs.Counting.{goes_on_lem, farther_on}
+use Rattle.text.proofs.Counting.{goes_on_lem}
 use Rattle.cases.specs.Listings.{token_line}
 use Rattle.cases.proofs.Listed.{to_list, list_start, list_more, list_end, list_fault}
 use Rattle.cases.proofs.listing.listed.Goals as goal
@@ -55,11 +55,3 @@ returns-in-Err c =
     c.in_ok-writeln-in-Err.ensures.bytes
     ∙ ap (λ l. c.loop-token.out.items ++ l) (list_fault text i c.in-Err.refusal (omega arith) told)
     ∙ c.loop-token.invariant.1
-
-pub loop-token-smaller : goal.loop-token-smaller
-loop-token-smaller c =
-    let kept = ap (λ s. length s.now) c.in-Ok.ensures.source in
-    let within = c.next_token.new.self.within in
-    let on = farther_on c.loop-token.lexer.source.now c.loop-token.lexer.place c.next_token.new.self.place c.in-Ok.token.place (lexeme c.in-Ok.token.item)
-    (omega arith) (goes_on_lem c.in-Ok.token.item c.in_default.not-End) c.in-Ok.ensures.stepped.shortens in
-    omega arith

@@ -1,4 +1,4 @@
-use Rattle.std.proofs.Common.{◌≡◌, ◌<◌, false, length, Ok, Err, sym, ap, ◌∙◌, subst, arith, rules}
+use Rattle.std.proofs.Common.{◌≡◌, ◌<◌, false, length, Ok, Err, sym, ap, ◌∙◌, subst, arith}
 use Rattle.std.proofs.lemmas.Result.{err_from_is_err_and}
 use Rattle.text.specs.Laws.{Counted}
 use Rattle.text.specs.Lexings.{lexed, counted}
@@ -44,20 +44,6 @@ moves_on c =
     let within = c.next_token.new.self.within in
     farther_on c.loop-token.lexer.source.now c.loop-token.lexer.place c.next_token.new.self.place c.in_ok-token.token.place (lexeme c.in_ok-token.token.item)
     (omega arith) (token_here c) c.in_ok-token.ensures.stepped.shortens
-
-pub overflow_add-count : goal.overflow_add-count
-overflow_add-count c =
-    let on = moves_on c in
-    let within = c.next_token.new.self.within in
-    let few = c.loop-token.invariant.1 in
-    search rules
-
-pub loop-token-smaller : goal.loop-token-smaller
-loop-token-smaller c =
-    let kept = ap (λ s. length s.now) c.in_ok-token.ensures.source in
-    let within = c.next_token.new.self.within in
-    let on = moves_on c in
-    omega arith
 
 pub loop-token-preserved : goal.loop-token-preserved
 loop-token-preserved c =
