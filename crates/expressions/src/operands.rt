@@ -1,8 +1,8 @@
 //! Expressions, from the loosest layer to operands.
-ghost use Rattle.std.specs.Prelude.{ℕ};
+ghost use Rattle.std.specs.Prelude.{◌≡◌, ℕ};
 ghost use Rattle.grammar.specs.Grammars.{nest};
 ghost use Rattle.grammar.specs.Parsers.{parse_at};
-ghost use Rattle.syntax.specs.Nodes.{inner_made, expression_made, comparison_made, negation_made, operand_made, named_made};
+ghost use Rattle.syntax.specs.Nodes.{over, inner_made, expression_made, comparison_made, negation_made, operand_made, named_made};
 ghost use Rattle.syntax.specs.Syntax.{rule, arguments, parentheses, negated, expression, comparison, compared, negation, operand, named};
 ghost use Rattle.reading.specs.States.{stream_of, Reads, Builds, shown, of_node, of_list};
 ghost use Rattle.expressions.specs.Layers.{layer_gram, layer_made, tighter_gram, tighter_made, turn_gram, turn_made, compared_made_over};
@@ -47,6 +47,17 @@ const COMPARED_START: [TokenClass; 4] = [
     TokenClass::Word(Keyword::In),
 ];
 
+/// A node over what stands on its left and on its right.
+fn joined(kind: Kind, place: u16, left: u16, right: u16) -> Node
+    ensures { result ≡ over kind place left right 0 }
+{
+    Node {
+        first: left,
+        second: right,
+        ..Node::bare(kind, place)
+    }
+}
+
 /// An expression.
 #[cycle(group)]
 pub fn expression(
@@ -86,11 +97,8 @@ fn operation(
 {
     let sign = reader.one_of(layer.signs())?;
     let right = tighter(reader, layer, allowed)?;
-    Ok(reader.record(Node {
-        first: left,
-        second: right.number,
-        ..Node::bare(operator_kind(sign.class), sign.place)
-    }))
+    let node = joined(operator_kind(sign.class), sign.place, left, right.number);
+    Ok(reader.record(node))
 }
 
 /// What stands between the operators of a layer.
@@ -158,19 +166,12 @@ fn compared(
     if !COMPARISONS.contains(&reader.class()) {
         let place = reader.take(TokenClass::Word(Keyword::In))?;
         let right = reader.variable()?;
-        return Ok(reader.record(Node {
-            first: left,
-            second: right.number,
-            ..Node::bare(Kind::In, place)
-        }));
+        return Ok(reader.record(joined(Kind::In, place, left, right.number)));
     }
     let sign = reader.one_of(&COMPARISONS)?;
     let right = layered(reader, Layer::Sum, allowed)?;
-    Ok(reader.record(Node {
-        first: left,
-        second: right.number,
-        ..Node::bare(operator_kind(sign.class), sign.place)
-    }))
+    let node = joined(operator_kind(sign.class), sign.place, left, right.number);
+    Ok(reader.record(node))
 }
 
 /// An operand.

@@ -1,3 +1,4 @@
+pub mod Faults
 pub mod TokenClasses
 pub mod Streams
 pub mod Grammars

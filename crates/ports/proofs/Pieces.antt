@@ -1,5 +1,5 @@
 -- The words of a text, one after another.
-use Rattle.std.proofs.Common.{◌≡◌, ℕ, suc, ◌+◌, ◌<◌, ◌≤◌, Bool, true, false, cond, not, ltb, List, [], ◌∷◌, length, get_or, drop, ℤ, Some, None, Option, sym, refl, ap, ◌∙◌, subst, inl, inr, add-zero, arith}
+use Rattle.std.proofs.Common.{◌≡◌, ℕ, suc, ◌+◌, ◌<◌, ◌≤◌, Bool, true, false, cond, not, ltb, List, [], ◌∷◌, length, get_or, drop, ℤ, Some, None, sym, refl, ap, ◌∙◌, inl, inr, add-zero, arith}
 use Rattle.std.specs.List.{position, position_or_len, before_first}
 use Rattle.std.proofs.lemmas.Bool.{ltb-true, ltb-false}
 use Rattle.std.proofs.lemmas.Bool.{not-false, not-true, cases_lt}
@@ -118,17 +118,6 @@ none_taken text rest i r s =
     ap (λ l. words_of i (pieces l)) (sym r) ∙ words_blanks i rest
     ∙ ap (λ l. words_of (i + position_or_len solid rest) (pieces l)) (drop_all (position_or_len solid rest) rest (missing solid rest s))
 
-pub word_after : (text : List ℕ) (i p : ℕ) (w : List ℕ) (ws : List (ℕ × List ℕ)) → i ≤ length text → words_from i text ≡ (p, w) ∷ ws → Taken text i p w
-word_after text i p w ws h e = go (position solid (drop i text)) refl
-  where
-    go : (o : Option ℕ) → position solid (drop i text) ≡ o → Taken text i p w
-    go None s = let none = none_taken text (drop i text) i refl (sym s) in absurd (cc)
-    go (Some k) s =
-        let t = word_taken text (drop i text) (drop k (drop i text)) (before_first blank (drop k (drop i text))) i k h refl (sym s) refl refl in
-        let words = t.words in
-        let pair : ◌≡◌ {A = ℕ × List ℕ} (i + k, before_first blank (drop k (drop i text))) (p, w) = cc in
-        subst (λ (x : ℕ × List ℕ). Taken text i x.0 x.1) pair t
-
 -- the numbers of words
 abbrev spelled_by : List (ℕ × List ℕ) → List ℤ
 spelled_by [] = []
@@ -143,16 +132,13 @@ numbers_from : (i : ℕ) (text : List ℕ) → numbers_in (drop i text) ≡ spel
 unfolding numbers_in words_from
 numbers_from i text = numbers_words i (pieces (drop i text))
 
-numbers_next : (text : List ℕ) (i p : ℕ) (w : List ℕ) → Taken text i p w → numbers_in (drop i text) ≡ leading (number_of w) (numbers_in (drop (p + length w) text))
-numbers_next text i p w t =
-    numbers_from i text ∙ ap spelled_by t.words ∙ ap (leading (number_of w)) (sym (numbers_from (p + length w) text))
-
 -- what waits from place i on: nothing, nothing for a malformed word, or the number of the next word and those after it
 pub none_waits : (text : List ℕ) (i : ℕ) → words_from i text ≡ [] → numbers_in (drop i text) ≡ []
 none_waits text i e = numbers_from i text ∙ ap spelled_by e
 
-pub malformed_waits : (text : List ℕ) (i p : ℕ) (w : List ℕ) → Taken text i p w → None ≡ number_of w → numbers_in (drop i text) ≡ []
-malformed_waits text i p w t e = numbers_next text i p w t ∙ ap (λ o. leading o (numbers_in (drop (p + length w) text))) (sym e)
+pub malformed_waits : (text : List ℕ) (i p : ℕ) (w : List ℕ) (ws : List (ℕ × List ℕ)) → words_from i text ≡ (p, w) ∷ ws → None ≡ number_of w → numbers_in (drop i text) ≡ []
+malformed_waits text i p w ws e none = numbers_from i text ∙ ap spelled_by e ∙ ap (λ o. leading o (spelled_by ws)) (sym none)
 
-pub number_waits : (text : List ℕ) (i p : ℕ) (w : List ℕ) (n : ℤ) → Taken text i p w → Some n ≡ number_of w → numbers_in (drop i text) ≡ n ∷ numbers_in (drop (p + length w) text)
-number_waits text i p w n t e = numbers_next text i p w t ∙ ap (λ o. leading o (numbers_in (drop (p + length w) text))) (sym e)
+pub number_waits : (text rest : List ℕ) (i j p : ℕ) (w : List ℕ) (n : ℤ) → words_from i text ≡ (p, w) ∷ words_from j rest → Some n ≡ number_of w → numbers_in (drop i text) ≡ n ∷ numbers_in (drop j rest)
+number_waits text rest i j p w n e some =
+    numbers_from i text ∙ ap spelled_by e ∙ ap (λ o. leading o (spelled_by (words_from j rest))) (sym some) ∙ ap (λ ns. n ∷ ns) (sym (numbers_from j rest))

@@ -15,7 +15,7 @@ used_of s = s.output.used
 
 abbrev pub text_meaning : TextPort → Meaning
 text_meaning s =
-    open32 (numbers_in (drop s.place s.input.now)) (numbers_in (take (used_of s) (bytes_of s))) s.room
+    open32 (numbers_in (drop s.words.place s.words.text.now)) (numbers_in (take (used_of s) (bytes_of s))) s.room
 
 -- Where a write of n answers r, it turns the bytes of s into those of t: n is spelled after the bytes used, and the rest is kept.
 abbrev pub Spelt : TextPort → ℤ → Result Unit PortFault → TextPort → Type 0

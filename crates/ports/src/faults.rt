@@ -42,16 +42,14 @@ impl PortFault {
 #[derive(Clone, Copy, PartialEq, Eq, Debug)]
 pub enum RangeFault {
     /// Its lowest number is above its highest.
-    Reversed,
+    Reversed = 53,
 }
 
 impl Fault for RangeFault {
     ghost number = { range_number };
 
     fn number(self) -> u8 {
-        match self {
-            RangeFault::Reversed => 53,
-        }
+        self as u8
     }
 }
 

@@ -12,11 +12,9 @@ use crate::words::{Words, first_malformed, number};
 /// Reads the words of one slice of bytes, and writes into another. What waits ends before the first malformed word.
 #[derive(Drop)]
 pub struct TextPort<'i, 'o> {
-    input: &'i [u8],
-    place: usize,
+    words: Words<'i>,
     output: Output<'o>,
     room: usize,
-    ghost read: { place ≤ length input.now },
     ghost roomy: { output.used + 12 * room ≤ length output.bytes.now },
     ghost wrote: { spellings (numbers_in (take output.used output.bytes.now)) ≡ take output.used output.bytes.now },
 }
@@ -27,14 +25,16 @@ impl<'i, 'o> TextPort<'i, 'o> {
     /// The numbers of the input wait, nothing is written, and there is room for a number in each twelve bytes.
     pub fn over(input: &'i [u8], output: &'o mut [u8]) -> TextPort<'i, 'o>
         ensures meaning { text_meaning result ≡ open32 (numbers_in input.now) [] (length output.old / 12) }
-        ensures input { result.input.now ≡ input.now }
+        ensures input { result.words.text.now ≡ input.now }
         ensures holds { result.output.bytes.ghost_name ≡ output.entry.ghost_name }
         ensures again { ReadBack }
     {
         let room = output.len() / WIDEST;
         TextPort {
-            input,
-            place: 0,
+            words: Words {
+                text: input,
+                place: 0,
+            },
             output: Output {
                 bytes: output,
                 used: 0,
@@ -45,9 +45,9 @@ impl<'i, 'o> TextPort<'i, 'o> {
 
     /// The first word of the whole input that spells no number.
     pub fn malformed(&self) -> Option<Malformed>
-        ensures { result ≡ malformed_in 0 self.now.input.now }
+        ensures { result ≡ malformed_in 0 self.now.words.text.now }
     {
-        first_malformed(self.input)
+        first_malformed(self.words.text)
     }
 
     /// The bytes written: the spellings of the numbers written, one after another.
@@ -62,7 +62,7 @@ impl<'i, 'o> TextPort<'i, 'o> {
         ensures gives { result ≡ write_gives (text_meaning self.old) n }
         ensures leaves { text_meaning self.new ≡ write_leaves (text_meaning self.old) n }
         ensures holds { self.new.output.bytes.ghost_name ≡ self.old.output.bytes.ghost_name }
-        ensures input { self.new.input ≡ self.old.input }
+        ensures input { self.new.words ≡ self.old.words }
         ensures spelt { Spelt self.old n result self.new }
     {
         if self.room == 0 {
@@ -82,13 +82,10 @@ impl Port for TextPort<'_, '_> {
     ghost lent = { λ s. s.output.bytes.ghost_name ∷ [] };
 
     fn read(&mut self) -> Result<i32, PortFault> {
-        let mut words = Words {
-            text: self.input,
-            place: self.place,
-        };
+        let mut words = self.words;
         let word = words.next().ok_or(PortFault::NoneWaits)?;
         let n = number(word.bytes).ok_or(PortFault::NoneWaits)?;
-        self.place = word.place + word.bytes.len();
+        self.words = words;
         Ok(n)
     }
 

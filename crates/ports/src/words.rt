@@ -36,7 +36,7 @@ pub struct Word<'t> {
 }
 
 /// The words of a text from a place on.
-#[derive(Drop)]
+#[derive(Clone, Copy)]
 pub struct Words<'t> {
     pub text: &'t [u8],
     pub place: usize,

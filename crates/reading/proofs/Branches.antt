@@ -12,7 +12,7 @@ use Rattle.syntax.specs.Syntax.{G, rule}
 use Rattle.reading.specs.declared.readers.Reader.{Reader}
 use Rattle.reading.specs.States.{State, stream_of, state_of, Answer, done, written, Reads, Builds}
 use Rattle.reading.specs.Steps.{front_of, taken}
-use Rattle.reading.proofs.Sequences.{Left, Whole, unit, begin_as, pair, leaf_made}
+use Rattle.reading.proofs.Sequences.{Left, Whole, unit, leaf_made}
 
 -- ---- the same, read as a part of something
 
@@ -93,10 +93,6 @@ branched_by d cl (many g) s e = unit (parse_at rule d (many g) s)
 branched_by d cl (ahead c k g h) s e = unit (parse_at rule d (ahead c k g h) s)
 branched_by d cl (nest c n) s e = unit (parse_at rule d (nest c n) s)
 
--- the token ahead tells the alternative
-pub begin_on : (d cl : ℕ) (g : G) (a : Reader) → front_of (stream_of a) ≡ cl → Left (parse_at rule d g (stream_of a)) a a d (branch_of cl g) (inject d cl g) [] 0
-begin_on d cl g a e = begin_as (parse_at rule d g (stream_of a)) d (branch_of cl g) (inject d cl g) a (branched_by d cl g (stream_of a) e)
-
 pub as_branch : (d cl : ℕ) (g : G) (out : Makes (TreeAt rule d g)) {act : Makes (TreeAt rule d (branch_of cl g))} {a b : Reader} {r : Answer} → front_of (stream_of a) ≡ cl → ((x : TreeAt rule d (branch_of cl g)) (n : ℕ) → out (inject d cl g x) n ≡ act x n) → Builds act (parse_at rule d (branch_of cl g) (stream_of a)) a r b → Builds out (parse_at rule d g (stream_of a)) a r b
 as_branch d cl g out {a = a} e h r = builds_as out (parse_at rule d g (stream_of a)) (inject d cl g) (branched_by d cl g (stream_of a) e) h r
 
@@ -157,9 +153,6 @@ lasting d (many g) s e = unit (parse_at rule d (many g) s)
 lasting d (ahead c k g h) s e = unit (parse_at rule d (ahead c k g h) s)
 lasting d (nest c n) s e = unit (parse_at rule d (nest c n) s)
 
-pub begin_last : (d : ℕ) (g : G) (a : Reader) → among (earlier g) (front_of (stream_of a)) ≡ false → Left (parse_at rule d g (stream_of a)) a a d (last_of g) (inject_last d g) [] 0
-begin_last d g a e = begin_as (parse_at rule d g (stream_of a)) d (last_of g) (inject_last d g) a (lasting d g (stream_of a) e)
-
 pub as_last : (d : ℕ) (g : G) (out : Makes (TreeAt rule d g)) {act : Makes (TreeAt rule d (last_of g))} {a b : Reader} {r : Answer} → among (earlier g) (front_of (stream_of a)) ≡ false → ((x : TreeAt rule d (last_of g)) (n : ℕ) → out (inject_last d g x) n ≡ act x n) → Builds act (parse_at rule d (last_of g) (stream_of a)) a r b → Builds out (parse_at rule d g (stream_of a)) a r b
 as_last d g out {a = a} e h r = builds_as out (parse_at rule d g (stream_of a)) (inject_last d g) (lasting d g (stream_of a) e) h r
 
@@ -193,12 +186,6 @@ nothing d = tt
 pub on_nil : {Y : Type 0} {R : Read Y} {a m : Reader} {d : ℕ} {f : TreeAt rule d nil → Y} {ms : List Node} {k : ℕ} → Left R a m d nil f ms k → Whole R a m (f (nothing d)) ms k
 unfolding Tree parse nothing
 on_nil s = let p = s.part in record { part = record { left = p.left; lends = p.lends; onward = p.onward; state = p.state; paced = p.paced } }
-
-pub past_nil : {Y : Type 0} {R : Read Y} {a m : Reader} {d : ℕ} {h : G} {f : TreeAt rule d (seq nil h) → Y} {ms : List Node} {k : ℕ} → Left R a m d (seq nil h) f ms k → Left R a m d h (λ x. f (pair d nil h (nothing d) x)) ms k
-unfolding Tree parse nothing pair
-past_nil {m = m} {d = d} {h = h} {f = f} s =
-    let p = s.part in
-    record { part = record { left = p.left ∙ twice (λ x. pair d nil h (nothing d) x) f (parse_at rule d h (stream_of m)); lends = p.lends; onward = p.onward; state = p.state; paced = p.paced } }
 
 -- the first alternative is begun
 first_of : (d : ℕ) (g h : G) (s : Stream) → among (firsts g) (front_of s) ≡ true → parse_at rule d (alt g h) s ≡ bind (parse_at rule d g s) (λ x t. Ok (left_tree d g h x, t))

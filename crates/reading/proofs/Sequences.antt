@@ -27,10 +27,6 @@ same_stream a b s =
     ∙ ap (λ p. stream_by (lexeme a.token) p (lexed_from (suc (length b.lexer.source.now)) b.lexer.source.now b.lexer.place)) s.place
     ∙ ap (λ l. stream_by (lexeme a.token) a.place (lexed_from (suc (length l.source.now)) l.source.now l.place)) s.lexer
 
-unfoldable pub stream_is : (r : Reader) → (state_of r).stream ≡ stream_of r
-unfolding state_of
-stream_is r = refl
-
 unfoldable pub count_is : (r : Reader) → (state_of r).count ≡ r.count
 unfolding state_of
 count_is r = refl
@@ -187,18 +183,10 @@ unit (Err e) = refl
 pub begin : (d : ℕ) (g : G) (a : Reader) → Left (parse_at rule d g (stream_of a)) a a d g (λ x. x) [] 0
 begin d g a = record { part = start a (unit (parse_at rule d g (stream_of a))) }
 
--- the same, read as another grammar
-pub begin_as : {Y : Type 0} (R : Read Y) (d : ℕ) (g : G) (f : TreeAt rule d g → Y) (a : Reader) → R ≡ bind (parse_at rule d g (stream_of a)) (λ x s. Ok (f x, s)) → Left R a a d g f [] 0
-begin_as R d g f a e = record { part = start a e }
-
 -- two trees one after the other; the tree of a token; that of one of several
 unfoldable pub pair : (d : ℕ) (g h : G) → TreeAt rule d g → TreeAt rule d h → TreeAt rule d (seq g h)
 unfolding Tree
 pair d g h x y = (x, y)
-
-unfoldable pub leaf : (d c : ℕ) → Of c → TreeAt rule d (tok c)
-unfolding Tree
-leaf d c x = x
 
 -- what a token's tree stands for, as the tree of a grammar
 unfoldable pub leaf_made : (d c : ℕ) → Makes (Of c) → Makes (TreeAt rule d (tok c))

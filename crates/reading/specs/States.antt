@@ -105,9 +105,6 @@ of_place p = (0, p)
 abbrev pub of_list : ℕ → ℕ × ℕ
 of_list n = (n, 0)
 
-abbrev pub of_type : ℕ → ℕ × ℕ
-of_type n = (n, 0)
-
 -- with the state after it
 abbrev pub Done : Type 0
 Done = Result (ℕ × ℕ × State) Refusal

@@ -9,7 +9,7 @@ mod changing;
 const CELLS: usize = 64;
 
 /// A row that has no cell left for one more number.
-#[derive(Clone, Copy)]
+#[derive(Clone, Copy, PartialEq, Eq, Debug)]
 pub(crate) struct NoRoom;
 
 /// One set: its numbers in rising order, in the first `count` cells.

@@ -51,7 +51,11 @@ pub fn take_off<E: Entry>(slots: &[E], height: &mut Height) -> Option<E>
 pub fn look_at<E: Entry>(slots: &[E], height: &Height, i: usize) -> Option<E>
     ensures { Looked slots.now height.now.entries i result }
 {
-    slots.get(i).copied().filter(|_| i < height.entries)
+    if i < height.entries {
+        slots.get(i).copied()
+    } else {
+        None
+    }
 }
 
 /// Puts another entry in the place of the one at i, from the lowest; false where there is none.
@@ -59,7 +63,7 @@ pub fn change_at<E: Entry>(slots: &mut [E], height: &Height, i: usize, entry: E)
     ensures changed { Changed slots.old height.now.entries i entry result slots.new }
     ensures entries { ChangedEntries slots.old height.now.entries i entry result slots.new }
 {
-    if i >= height.entries.min(slots.len()) {
+    if i >= height.entries || i >= slots.len() {
         return false;
     }
     slots[i] = entry;

@@ -43,8 +43,8 @@ fn blanks(rest: &[u8]) -> usize
 fn magnitude(digits: &[u8]) -> Option<u32>
     ensures { Digits digits.now → result ≡ magnitude_of digits.now }
 {
-    let value = str::from_utf8(digits).ok()?.parse::<u32>();
-    value.ok().filter(|value| *value <= LARGEST)
+    let value = str::from_utf8(digits).ok()?.parse().ok();
+    value.filter(|n| *n <= LARGEST)
 }
 
 /// The keyword or the name that a word is.

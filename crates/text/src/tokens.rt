@@ -5,7 +5,7 @@ use crate::spellings::{Keyword, Sign};
 use refusals::Fault;
 
 /// A token; `N` is how a name is held: as a part of the text, and in definitions as its bytes.
-#[derive(Clone, Copy)]
+#[derive(Clone, Copy, PartialEq, Eq, Debug)]
 pub enum Token<N> {
     Word(Keyword),
     Name(N),
@@ -15,24 +15,19 @@ pub enum Token<N> {
     End,
 }
 
-/// Why no token can be taken.
+/// Why no token can be taken, by the number that the refusal is known by.
 #[derive(Clone, Copy, PartialEq, Eq, Debug)]
 pub enum LexFault {
-    NoToken,
-    CommentOpen,
-    NumberTooLarge,
-    NameTooLong,
+    NoToken = 11,
+    CommentOpen = 12,
+    NumberTooLarge = 13,
+    NameTooLong = 14,
 }
 
 impl Fault for LexFault {
     ghost number = { fault_number };
 
     fn number(self) -> u8 {
-        match self {
-            LexFault::NoToken => 11,
-            LexFault::CommentOpen => 12,
-            LexFault::NumberTooLarge => 13,
-            LexFault::NameTooLong => 14,
-        }
+        self as u8
     }
 }

@@ -81,7 +81,7 @@ operation-returns t c =
     let l = c.args.layer in
     let s = past_mark (first_sign l) (other_signs l) (begin c.args.allowed (turn_gram l) c.args.reader.now) (take_signs c.signs.ensures c.in_ok-sign.ensures) in
     let u = only s.more c.in_ok-right.ensures.reads in
-    node u.whole c.record.ensures (over_as c.operator_kind.result _ {p = c.in_ok-sign.sign.place} {f = c.args.left} {s = c.in_ok-right.right.number} {u = 0} (search rules) (c.operator_kind.ensures ∙ ap operator_kind s.number) s.place refl u.number refl) refl
+    node u.whole c.record.ensures (over_as _ _ c.joined-node.ensures (c.operator_kind.ensures ∙ ap operator_kind s.number) s.place refl u.number refl) refl
 
 -- ---- negations and comparisons
 
@@ -149,7 +149,7 @@ compared-returns-then-not-contains t c =
     let none = class_among signs_of_comparison c.class.result c.class.ensures c.contains.ensures.value c.if-not-contains.true in
     let s = past_token (on_last (begin c.args.allowed compared c.args.reader.now) none) c.in_ok-place.ensures in
     let u = only s.more (as_leaf_lem c.args.allowed 51 c.in_ok-right.ensures.reads) in
-    node u.whole c.record.ensures (over_is kind.In {p = c.in_ok-place.place} {f = c.args.left} {s = c.in_ok-right.right.number} {u = 0} (search rules) s.place refl u.number refl) refl
+    node u.whole c.record.ensures (over_is kind.In c.joined.ensures s.place refl u.number refl) refl
 
 pub compared-returns-in_err-sign : goal.compared-returns-in_err-sign
 compared-returns-in_err-sign t c =
@@ -168,7 +168,7 @@ compared-returns t c =
     let some = class_among signs_of_comparison c.class.result c.class.ensures c.contains.ensures.value c.if-not-contains.false in
     let s = past_mark 45 (46 ∷ (32 ∷ [])) (on_first (begin c.args.allowed compared c.args.reader.now) some) c.in_ok-sign.ensures in
     let u = only s.more (to_sum c.args.allowed c.in_ok-right-2.ensures).reads in
-    node u.whole c.record-2.ensures (over_as c.operator_kind.result _ {p = c.in_ok-sign.sign.place} {f = c.args.left} {s = c.in_ok-right-2.right.number} {u = 0} (search rules) (c.operator_kind.ensures ∙ ap operator_kind s.number) s.place refl u.number refl) refl
+    node u.whole c.record-2.ensures (over_as _ _ c.joined-node.ensures (c.operator_kind.ensures ∙ ap operator_kind s.number) s.place refl u.number refl) refl
 
 -- ---- operands
 

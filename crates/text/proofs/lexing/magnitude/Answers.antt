@@ -12,5 +12,5 @@ returns-in_err-ok c = λ h.
 pub returns : goal.returns
 returns c = λ d.
     let same : c.in_ok-ok.field-0.now ≡ c.args.digits.now = search rules in
-    let h : MatchOption (result_ok c.parse-value.result) (c.filter.result ≡ None) (λ x. c.filter.result ≡ then_some (leb x 2147483648) x) = search rules in
-    magnitude_read c.args.digits.now c.parse-value.result c.filter.result d (rw same at c.parse-value.ensures.value.0) h
+    let h : MatchOption (result_ok c.parse.result) (c.filter.result ≡ None) (λ x. c.filter.result ≡ then_some (leb x 2147483648) x) = search rules in
+    magnitude_read c.args.digits.now c.parse.result c.filter.result d (rw same at c.parse.ensures.value.0) h

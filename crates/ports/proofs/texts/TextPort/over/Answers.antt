@@ -5,7 +5,11 @@ use Rattle.ports.proofs.texts.TextPort.over.Goals as goal
 
 pub invariant_of-result : goal.invariant_of-result
 unfolding numbers_in
-invariant_of-result c = record { read = search rules; roomy = omega arith; wrote = refl }
+invariant_of-result c = record { within = search rules }
+
+pub invariant_of-result-2 : goal.invariant_of-result-2
+unfolding numbers_in
+invariant_of-result-2 c = record { roomy = omega arith; wrote = refl }
 
 pub returns-clause-meaning : goal.returns-clause-meaning
 unfolding numbers_in

@@ -15,7 +15,7 @@ invariant_of-self c =
     let roomy = s.roomy in
     let long = length_after s.output.bytes.now t.bytes.now s.output.used t.used n told in
     let wrote = wrote_after s.output.bytes.now t.bytes.now s.output.used t.used n told s.wrote (all_within n c.ranges.n) in
-    record { read = s.read; roomy = omega (arith, c.put.ensures.short); wrote = wrote }
+    record { roomy = omega (arith, c.put.ensures.short); wrote = wrote }
 
 pub returns-clause-leaves : goal.returns-clause-leaves
 returns-clause-leaves c =
@@ -24,4 +24,4 @@ returns-clause-leaves c =
     let n = c.args.n in
     let some : 0 < s.room = omega arith in
     let told = appended s.output.bytes.now t.bytes.now s.output.used t.used s.room n _ (to_z-of_z w32 n c.ranges.n) s.roomy some c.put.ensures.count c.put.ensures.short c.put.ensures.bytes in
-    leaves_after (numbers_in (drop s.place s.input.now)) s.output.bytes.now t.bytes.now s.output.used t.used s.room n told s.wrote (all_within n c.ranges.n) some
+    leaves_after (numbers_in (drop s.words.place s.words.text.now)) s.output.bytes.now t.bytes.now s.output.used t.used s.room n told s.wrote (all_within n c.ranges.n) some
