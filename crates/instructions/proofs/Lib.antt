@@ -1,1 +1,3 @@
 pub mod Ahead
+pub mod Constructs
+pub mod Groups

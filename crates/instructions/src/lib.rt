@@ -4,4 +4,5 @@
 //! written are those of the tree. `allowed` is how many constructs may still be opened.
 #![tactic(auto)]
 
+pub mod blocks;
 pub mod simple;

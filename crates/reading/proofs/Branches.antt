@@ -167,7 +167,7 @@ none_of c (x ∷ cs) h = ap (λ b. b || among cs c) (ne_eqb c x h.0) ∙ none_of
 
 -- ---- alternatives further on
 
-then_part : {Y : Type 0} {R : Read Y} {a m : Reader} {d : ℕ} {g h : G} {f : TreeAt rule d g → Y} {ms : List Node} {k : ℕ} (j : TreeAt rule d h → TreeAt rule d g) → Left R a m d g f ms k → parse_at rule d g (stream_of m) ≡ bind (parse_at rule d h (stream_of m)) (λ x t. Ok (j x, t)) → Left R a m d h (λ x. f (j x)) ms k
+pub then_part : {Y : Type 0} {R : Read Y} {a m : Reader} {d : ℕ} {g h : G} {f : TreeAt rule d g → Y} {ms : List Node} {k : ℕ} (j : TreeAt rule d h → TreeAt rule d g) → Left R a m d g f ms k → parse_at rule d g (stream_of m) ≡ bind (parse_at rule d h (stream_of m)) (λ x t. Ok (j x, t)) → Left R a m d h (λ x. f (j x)) ms k
 then_part {m = m} {d = d} {h = h} {f = f} j s e =
     let p = s.part in
     record { part = record { left = p.left ∙ ap (λ r. bind r (λ x t. Ok (f x, t))) e ∙ twice j f (parse_at rule d h (stream_of m)); lends = p.lends; onward = p.onward; state = p.state; paced = p.paced } }
