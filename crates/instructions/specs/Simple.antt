@@ -52,7 +52,7 @@ evaluation_made d x n = evaluate_made (inner_made d) x.0 n
 
 -- one or the other
 abbrev pub wordless_gram : G
-wordless_gram = ahead 51 (sign_class mark.Becomes) (expression ▸ sign mark.Semicolon) evaluation_gram
+wordless_gram = ahead 51 (sign_class mark.Becomes) evaluation_gram evaluation_gram
 
 unfoldable pub wordless_made : (d : ℕ) → Makes (TreeAt rule d wordless_gram)
 unfolding Tree
