@@ -12,7 +12,7 @@ use Rattle.grammar.specs.Streams.{Stream, Refusal}
 use Rattle.grammar.specs.TokenClasses.{among}
 use Rattle.grammar.proofs.Soundness.{sound_in}
 use Rattle.grammar.proofs.Unrolling.{many_again, one_more, none as no_more}
-use Rattle.syntax.specs.Nodes.{Made, Makes, folded, with_next, next_last, first_or, linked}
+use Rattle.syntax.specs.Nodes.{Made, Makes, folded, with_next, next_last, first_or, linked, none}
 use Rattle.syntax.specs.Syntax.{G, rule}
 use Rattle.reading.specs.declared.readers.Reader.{Reader}
 use Rattle.reading.specs.States.{State, stream_of, state_of, Lends, Written, Chained, linked_at, applied, written, Reads}
@@ -274,6 +274,11 @@ goes_from {f = f} made s folds number place =
     let p = s.part in
     let pace = p.paced in
     record { made = made; rest = f; left = record { part = record { left = p.left; lends = p.lends; onward = p.onward; state = p.state; paced = omega arith } }; folds = folds; number = number; place = place }
+
+-- a list before its first member, and one of its first
+pub lists_from : {Y : Type 0} {out : Makes Y} {R : Read Y} {a m : Reader} {d : ℕ} {g : G} {turn : Made → TreeAt rule d g → Made} {f : TreeAt rule d (many g) → Y} {k : ℕ} → Left R a m d (many g) f [] k → ((xs : List (TreeAt rule d g)) → out (f (items d g xs)) a.count ≡ folded turn none xs) → Listing out R a m d g turn 0
+unfolding goes_from
+lists_from s folds = record { going = goes_from none s folds refl refl; listed = record { without = λ _. refl; with_some = λ h. absurd (omega arith) } }
 
 unfoldable pub lists_on : {Y : Type 0} {out : Makes Y} {R : Read Y} {a m : Reader} {d : ℕ} {g : G} {turn : Made → TreeAt rule d g → Made} {f : TreeAt rule d (many g) → Y} {k i : ℕ} (made : Made) → Left R a m d (many g) f made.nodes k → ((xs : List (TreeAt rule d g)) → out (f (items d g xs)) a.count ≡ folded turn made xs) → i ≡ made.number → 0 ≡ made.place → 0 < i → a.count < m.count → Listing out R a m d g turn i
 unfolding goes_from state_of
