@@ -1,5 +1,5 @@
 -- Operators of a layer one after another, arguments, and what is denied: what each turn makes.
-use Rattle.std.proofs.Common.{◌≡◌, ℕ, zero, suc, ◌+◌, ◌-◌, ◌<◌, ◌≤◌, Bool, true, false, List, [], ◌∷◌, ◌++◌, length, map, Ok, Err, sym, refl, ap, ◌∙◌, subst, inl, inr, arith}
+use Rattle.std.proofs.Common.{◌≡◌, ℕ, zero, suc, ◌+◌, ◌-◌, ◌<◌, ◌≤◌, Bool, false, List, [], ◌∷◌, ◌++◌, length, map, Ok, Err, sym, refl, ap, ◌∙◌, subst, inl, inr, arith}
 use Rattle.std.proofs.lemmas.List.{length-append, append_assoc}
 use Rattle.std.specs.List.{list_any}
 use Rattle.table.specs.declared.kinds.Kind.{Kind}
@@ -16,16 +16,17 @@ use Rattle.grammar.specs.declared.classing.TokenClass.{TokenClass}
 use Rattle.grammar.specs.declared.classing.TokenClass.TheVariants as class
 use Rattle.grammar.specs.TokenClasses.{class_number, among}
 use Rattle.grammar.proofs.ClassNumbers.{class_one, class_among}
-use Rattle.syntax.specs.Nodes.{Made, Makes, after, with, over, joining, operated, chosen, inner_made, rule_made, operand_made, product_made, sum_made, compared_made, comparison_made, negation_made, expression_made, variable, appended, linked, none}
-use Rattle.syntax.specs.Syntax.{G, rule, arguments, negated, operand, sum, compared, comparison, negation, expression, sign}
+use Rattle.syntax.specs.Nodes.{Made, after, with, over, joining, operated, chosen, inner_made, rule_made, operand_made, product_made, sum_made, compared_made, comparison_made, negation_made, expression_made, variable}
+use Rattle.syntax.specs.Syntax.{rule, arguments, negated, operand, sum, compared, comparison, negation, expression, sign}
 use Rattle.reading.specs.declared.readers.Reader.{Reader}
 use Rattle.reading.specs.Nests.{nest_made, rule_at}
 use Rattle.reading.specs.States.{stream_of, Recorded, Answer, Reads, Takes, Builds}
 use Rattle.reading.specs.Steps.{front_of, taken, opened, any_taken, token_made, mark_made, bare_made, of_variable_made}
-use Rattle.reading.proofs.Branches.{on_first, left_tree, none_of}
-use Rattle.reading.proofs.Loops.{Item, Going, Listing, extended, items, goes_from, lists_on}
+use Rattle.reading.proofs.Branches.{reads_as, none_of}
+use Rattle.reading.proofs.Commas.{list_made}
+use Rattle.reading.proofs.Loops.{Item, Going, extended, items, goes_from}
 use Rattle.reading.proofs.Nests.{nested, open_left}
-use Rattle.reading.proofs.Sequences.{begin, first, only, past_token, pass, node, pair, stop_last, over_is}
+use Rattle.reading.proofs.Sequences.{unit, begin, first, only, node, pair, stop_last, over_is}
 use Rattle.expressions.specs.declared.layers.Layer.{Layer}
 use Rattle.expressions.specs.declared.layers.Layer.TheVariants as layer
 use Rattle.expressions.specs.Layers.{first_sign, other_signs, tighter_gram, tighter_made, turn_gram, layer_gram, layer_made, turn_made, compared_made_over}
@@ -80,18 +81,14 @@ ComparisonRuns d m i p n j q = (R : Read (TreeAt rule d comparison)) (a : Reader
 
 -- ---- arguments
 
-abbrev pub argument_gram : G
-argument_gram = seq (sign mark.Comma) expression
+-- arguments are a list of expressions with commas
+same_list : (d : ℕ) (x : TreeAt rule d arguments_gram) (n : ℕ) → arguments_made d x n ≡ list_made d expression (expression_made (inner_made d)) x n
+unfolding Tree arguments_made list_made
+same_list d (inl x) n = refl
+same_list d (inr x) n = refl
 
-pub argument_item : Item argument_gram
-argument_item = record { some = refl; begun = refl }
-
-unfoldable pub argument_made : (d : ℕ) → Makes (TreeAt rule d argument_gram)
-unfolding Tree
-argument_made d z n = expression_made (inner_made d) z.1 n
-
-abbrev pub ArgumentRuns : (d : ℕ) → Reader → ℕ → Reader → ℕ → Type 0
-ArgumentRuns d m i n j = (R : Read (TreeAt rule d arguments_gram)) (a : Reader) → Listing (arguments_made d) R a m d argument_gram (appended (argument_made d) a.count) i → Listing (arguments_made d) R a n d argument_gram (appended (argument_made d) a.count) j
+pub as_arguments : (d : ℕ) {a b : Reader} {r : Answer} → Reads (list_made d expression (expression_made (inner_made d))) (parse_at rule d arguments_gram (stream_of a)) a r b → Reads (arguments_made d) (parse_at rule d arguments_gram (stream_of a)) a r b
+as_arguments d {a} r = reads_as (arguments_made d) (parse_at rule d arguments_gram (stream_of a)) (λ x. x) (unit _) (same_list d) r
 
 -- the nodes so far end with the answer
 abbrev pub OnTop : Reader → ℕ → Reader → Type 0
@@ -177,22 +174,6 @@ layered_start d l {a} r = let s = first (begin d (layer_gram l) a) r in goes_fro
 pub comparison_start : (d : ℕ) {a m : Reader} {i p : ℕ} → Reads (sum_made (inner_made d)) (parse_at rule d sum (stream_of a)) a (Ok (i, p)) m → Going (comparison_made (inner_made d)) (parse_at rule d comparison (stream_of a)) a m d compared (compared_made (inner_made d) a.count) i p
 unfolding Tree comparison_made items pair
 comparison_start d {a} r = let s = first (begin d comparison a) r in goes_from (sum_made (inner_made d) s.tree a.count) s.more (λ xs. refl) s.number s.place
-
-pub arguments_start : (d : ℕ) {a m : Reader} {i p : ℕ} → among (firsts expression) (front_of (stream_of a)) ≡ true → Builds (expression_made (inner_made d)) (parse_at rule d expression (stream_of a)) a (Ok (i, p)) m → Listing (arguments_made d) (parse_at rule d arguments_gram (stream_of a)) a m d argument_gram (appended (argument_made d) a.count) i
-unfolding Tree arguments_made argument_made items pair left_tree
-arguments_start d {a} begins r =
-    let s = first (on_first (begin d arguments_gram a) begins) r.reads in
-    let top = r.last.0 in
-    let more = r.last.1 in
-    lists_on (linked none (expression_made (inner_made d) s.tree a.count)) s.more (λ xs. refl) s.number refl (omega arith) more
-
--- a comma and an argument
-pub argument_read : (d : ℕ) {a m b : Reader} {j q i p : ℕ} → Takes (token_made 37) (taken 37 (stream_of a)) a (Ok (j, q)) m → Reads (expression_made (inner_made d)) (parse_at rule d expression (stream_of m)) m (Ok (i, p)) b → Reads (argument_made d) (parse_at rule d argument_gram (stream_of a)) a (Ok (i, p)) b
-unfolding Tree argument_made pair
-argument_read d {a} t r =
-    let s = past_token (begin d argument_gram a) t in
-    let u = only s.more r in
-    pass u.whole (λ k. record { nodes = (expression_made (inner_made d) u.tree a.count).nodes; number = u.number k; place = u.place k })
 
 -- the nodes of arguments with their parenthesis
 pub arguments_rule : (d p c : ℕ) (x : TreeAt rule d arguments_gram) (y : TreeAt rule d (sign mark.Close)) → arguments_made d x c ≡ rule_at d arguments p (pair d arguments_gram (sign mark.Close) x y) c

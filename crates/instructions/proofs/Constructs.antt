@@ -20,7 +20,7 @@ use Rattle.reading.proofs.Loops.{Item, Listing, items, lists_from}
 use Rattle.reading.proofs.Sequences.{Left, begin}
 use Rattle.instructions.specs.Blocks.{condition_gram, else_gram}
 use Rattle.instructions.specs.Simple.{of_expression_gram, of_expression_made, with_set_gram, with_set_made, wordless_gram, wordless_made}
-use Rattle.instructions.proofs.Groups.{apiece, grouped}
+use Rattle.reading.proofs.Groups.{apiece, grouped}
 
 -- ---- lists
 

@@ -1,6 +1,9 @@
 pub mod Advancing
+pub mod Ahead
 pub mod Branches
+pub mod Commas
 pub mod Fitting
+pub mod Groups
 pub mod Loops
 pub mod Marks
 pub mod Nests

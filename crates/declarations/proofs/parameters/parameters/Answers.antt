@@ -15,7 +15,7 @@ use Rattle.reading.specs.declared.readers.Reader.{Reader}
 use Rattle.reading.proofs.Branches.{reads_as, on_first, on_last, on_nil, inject_last, right_tree, nothing, none_of}
 use Rattle.reading.proofs.Loops.{fails, ends, joins}
 use Rattle.reading.proofs.Sequences.{begin, stop, past_token, stop_token, stop_last, exit, pass, unit}
-use Rattle.declarations.proofs.Commas.{next_gram, next_made, next_item, next_read, list_made, list_starts}
+use Rattle.reading.proofs.Commas.{next_gram, next_made, next_item, next_read, list_made, list_starts}
 use Rattle.declarations.proofs.parameters.parameters.Goals as goal
 
 abbrev starts : List TokenClass

@@ -1,7 +1,7 @@
 use Rattle.std.proofs.Common.{ℕ, ◌-◌}
 use Rattle.syntax.specs.Nodes.{inner_made, parameter_made}
 use Rattle.syntax.specs.Syntax.{parameter}
-use Rattle.declarations.proofs.Commas.{Runs}
+use Rattle.reading.proofs.Commas.{Runs}
 use Rattle.declarations.proofs.parameters.parameters.Given as goal
 
 abbrev pub invariant-loop-reader : goal.invariant-loop-reader

@@ -6,11 +6,12 @@ use Rattle.grammar.specs.TokenClasses.{keyword_class, sign_class, among}
 use Rattle.grammar.proofs.ClassNumbers.{class_is, class_is_not, class_differs, class_same, class_among}
 use Rattle.text.specs.declared.spellings.Sign.TheVariants as mark
 use Rattle.syntax.specs.Nodes.{inner_made, rule_made, operand_made, named_made, negation_made, expression_made, operator_kind}
-use Rattle.syntax.specs.Syntax.{rule, arguments, parentheses, negated, compared, comparison, negation, operand, named}
+use Rattle.syntax.specs.Syntax.{rule, expression, arguments, parentheses, negated, compared, comparison, negation, operand, named}
 use Rattle.reading.specs.Nests.{nest_made}
 use Rattle.reading.specs.States.{stream_of, of_node, of_list}
 use Rattle.reading.specs.Steps.{of_variable_made}
 use Rattle.reading.proofs.Branches.{as_branch, as_last, build_leaf, on_branch, on_first, on_last, on_nil, inject, inject_by, inject_last, left_tree, right_tree, nothing, none_of}
+use Rattle.reading.proofs.Commas.{next_gram, next_made, next_item, next_read, list_starts}
 use Rattle.reading.proofs.Loops.{turns, fails, ends, joins}
 use Rattle.reading.proofs.Marks.{past_mark, stop_mark}
 use Rattle.reading.proofs.Nests.{not_opened, opens, opens_node}
@@ -18,7 +19,7 @@ use Rattle.reading.proofs.Sequences.{begin, first, only, past_token, past_name, 
 use Rattle.expressions.specs.declared.layers.Layer.TheVariants as layer
 use Rattle.expressions.specs.Layers.{first_sign, other_signs, turn_gram, layer_gram, turn_made, compared_made_over}
 use Rattle.expressions.specs.Rules.{arguments_gram, arguments_made}
-use Rattle.expressions.proofs.Chains.{layer_item, layer_turns, compared_item, compared_turns, argument_item, argument_gram, argument_made, from_product, from_operand, from_negation, to_expression, to_sum, tighter_as, take_signs, bare_by, of_variable_by, layer_begins, NoOperand, no_operand, signs_of_comparison, starts_of_compared, starts_of_expression, layered_start, comparison_start, arguments_start, argument_read, arguments_rule, denial_ok, denial_stop}
+use Rattle.expressions.proofs.Chains.{layer_item, layer_turns, compared_item, compared_turns, from_product, from_operand, from_negation, to_expression, to_sum, tighter_as, take_signs, bare_by, of_variable_by, layer_begins, NoOperand, no_operand, signs_of_comparison, starts_of_compared, starts_of_expression, layered_start, comparison_start, as_arguments, arguments_rule, denial_ok, denial_stop}
 use Rattle.expressions.proofs.operands.+group.Goals as goal
 
 -- ---- layers
@@ -271,19 +272,20 @@ expressions-returns-in_err-first t c =
 pub expressions-returns-in_err-take : goal.expressions-returns-in_err-take
 expressions-returns-in_err-take t c =
     let some = class_among starts_of_expression c.class.result c.class.ensures c.contains.ensures.value c.if-not-contains.false in
-    let w = c.loop-reader.invariant _ _ (arguments_start c.args.allowed some c.in_ok-first.ensures) in
+    let w = c.loop-reader.invariant _ _ (list_starts c.args.allowed expression (expression_made (inner_made c.args.allowed)) some c.in_ok-first.ensures) in
     let comma = ap (among (37 ∷ [])) (sym c.class-in-loop-reader.ensures ∙ class_is c.class-in-loop-reader.result (class.Sign mark.Comma) c.eq.ensures c.loop-reader-test.true) in
-    exit of_list _ c.from_residual-in_err-take.ensures.1 (fails argument_item w.going comma (stop_token {out = argument_made c.args.allowed} (begin c.args.allowed argument_gram c.loop-reader.reader) c.in_err-take.ensures))
+    exit of_list _ c.from_residual-in_err-take.ensures.1 (as_arguments c.args.allowed (fails (next_item expression) w.going comma (stop_token {out = next_made c.args.allowed expression (expression_made (inner_made c.args.allowed))} (begin c.args.allowed (next_gram expression) c.loop-reader.reader) c.in_err-take.ensures)))
 
 pub expressions-returns-in_err-next : goal.expressions-returns-in_err-next
 expressions-returns-in_err-next t c =
     let some = class_among starts_of_expression c.class.result c.class.ensures c.contains.ensures.value c.if-not-contains.false in
-    let w = c.loop-reader.invariant _ _ (arguments_start c.args.allowed some c.in_ok-first.ensures) in
+    let w = c.loop-reader.invariant _ _ (list_starts c.args.allowed expression (expression_made (inner_made c.args.allowed)) some c.in_ok-first.ensures) in
     let comma = ap (among (37 ∷ [])) (sym c.class-in-loop-reader.ensures ∙ class_is c.class-in-loop-reader.result (class.Sign mark.Comma) c.eq.ensures c.loop-reader-test.true) in
-    let s = past_token (begin c.args.allowed argument_gram c.loop-reader.reader) c.in_ok-take.ensures in
-    exit of_list _ c.from_residual-in_err-next.ensures.1 (fails argument_item w.going comma (stop_last {out = argument_made c.args.allowed} s.more c.in_err-next.ensures.reads))
+    let s = past_token (begin c.args.allowed (next_gram expression) c.loop-reader.reader) c.in_ok-take.ensures in
+    exit of_list _ c.from_residual-in_err-next.ensures.1 (as_arguments c.args.allowed (fails (next_item expression) w.going comma (stop_last {out = next_made c.args.allowed expression (expression_made (inner_made c.args.allowed))} s.more c.in_err-next.ensures.reads)))
 
 pub expressions-loop-reader-preserved : goal.expressions-loop-reader-preserved
+unfolding next_made
 expressions-loop-reader-preserved t c = λ R a w.
     let g = c.loop-reader.invariant R a w in
     let comma = ap (among (37 ∷ [])) (sym c.class-in-loop-reader.ensures ∙ class_is c.class-in-loop-reader.result (class.Sign mark.Comma) c.eq.ensures c.loop-reader-test.true) in
@@ -291,13 +293,13 @@ expressions-loop-reader-preserved t c = λ R a w.
     let told = c.in_ok-next.ensures in
     let kept = taken.steps.0 in
     let more = told.last.1 in
-    joins argument_item g comma (argument_read c.args.allowed taken told.reads) told.last.0 (omega arith) c.nodes-last.ensures c.chain-first.ensures (λ x. refl)
+    joins (next_item expression) g comma (next_read c.args.allowed expression (expression_made (inner_made c.args.allowed)) taken told.reads) told.last.0 (omega arith) c.nodes-last.ensures c.chain-first.ensures (λ x. refl)
 
 pub expressions-returns : goal.expressions-returns
 expressions-returns t c =
     let some = class_among starts_of_expression c.class.result c.class.ensures c.contains.ensures.value c.if-not-contains.false in
-    let w = c.loop-reader.invariant _ _ (arguments_start c.args.allowed some c.in_ok-first.ensures) in
-    ends argument_item w.going (none_of _ (37 ∷ []) ((λ e. class_is_not c.class-in-loop-reader.result (class.Sign mark.Comma) c.eq.ensures c.loop-reader-test.false (c.class-in-loop-reader.ensures ∙ e)), tt))
+    let w = c.loop-reader.invariant _ _ (list_starts c.args.allowed expression (expression_made (inner_made c.args.allowed)) some c.in_ok-first.ensures) in
+    as_arguments c.args.allowed (ends (next_item expression) w.going (none_of _ (37 ∷ []) ((λ e. class_is_not c.class-in-loop-reader.result (class.Sign mark.Comma) c.eq.ensures c.loop-reader-test.false (c.class-in-loop-reader.ensures ∙ e)), tt)))
 
 -- ---- parentheses
 

@@ -1,6 +1,9 @@
 use Rattle.std.proofs.Common.{◌+◌, ◌-◌, ◌*◌}
 use Rattle.expressions.specs.Layers.{rank}
-use Rattle.expressions.proofs.Chains.{LayerRuns, ComparisonRuns, ArgumentRuns, OnTop}
+use Rattle.syntax.specs.Nodes.{inner_made, expression_made}
+use Rattle.syntax.specs.Syntax.{expression}
+use Rattle.reading.proofs.Commas.{Runs}
+use Rattle.expressions.proofs.Chains.{LayerRuns, ComparisonRuns, OnTop}
 use Rattle.expressions.proofs.operands.+group.Given as goal
 
 abbrev pub decreases-arguments : goal.decreases-arguments
@@ -55,7 +58,7 @@ abbrev pub decreases-comparison-loop-reader : goal.decreases-comparison-loop-rea
 decreases-comparison-loop-reader l = 16384 - l.reader.place
 
 abbrev pub invariant-expressions-loop-reader : goal.invariant-expressions-loop-reader
-invariant-expressions-loop-reader l = ArgumentRuns l.allowed l.initial.reader l.initial.first l.reader l.first
+invariant-expressions-loop-reader l = Runs l.allowed expression (expression_made (inner_made l.allowed)) l.initial.reader l.initial.first l.reader l.first
 
 abbrev pub decreases-expressions-loop-reader : goal.decreases-expressions-loop-reader
 decreases-expressions-loop-reader l = 16384 - l.reader.place

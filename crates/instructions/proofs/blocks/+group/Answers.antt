@@ -18,7 +18,7 @@ use Rattle.expressions.proofs.Chains.{bare_by}
 use Rattle.instructions.specs.Blocks.{condition_made, else_gram}
 use Rattle.instructions.specs.Simple.{of_expression_made, read_made, with_set_made}
 use Rattle.instructions.proofs.Constructs.{instruction_item, none_yet, of_expression_by, with_set_by, NoWord, no_word, wordless_is, choice_begins, repetition_begins, without_else}
-use Rattle.instructions.proofs.Groups.{apiece, left_of, right_of, passes_on}
+use Rattle.reading.proofs.Groups.{apiece, left_of, right_of, passes_on}
 use Rattle.instructions.proofs.blocks.+group.Goals as goal
 
 -- ---- lists

@@ -1,7 +1,7 @@
 use Rattle.std.proofs.Common.{sym, refl, ◌∙◌}
 use Rattle.grammar.specs.Grammars.{Tree}
 use Rattle.instructions.specs.Simple.{assignment_made, evaluation_gram, evaluation_made, wordless_made}
-use Rattle.instructions.proofs.Ahead.{with_two, without_two, as_two, as_else}
+use Rattle.reading.proofs.Ahead.{with_two, without_two, as_two, as_else}
 use Rattle.instructions.proofs.simple.wordless.Goals as goal
 
 pub returns-then-followed : goal.returns-then-followed
