@@ -1,4 +1,5 @@
 pub mod Fronts
+pub mod Magnitudes
 pub mod Numerals
 pub mod Pieces
 pub mod Puts

@@ -1,16 +1,15 @@
 -- The number that a word spells, in std's words for numerals.
-use Rattle.std.proofs.Common.{◌≡◌, ℕ, zero, suc, ◌+◌, ◌-◌, ◌*◌, ◌<◌, ◌≤◌, Bool, true, false, cond, ◌&&◌, eqb, leb, List, [], ◌∷◌, slice_index_or, drop, ℤ, pos, neg_ℤ, Some, None, Option, Ok, Err, Result, sym, refl, ap, ◌∙◌, subst, arith, w32, SFits}
+use Rattle.std.proofs.Common.{◌≡◌, ℕ, zero, suc, ◌+◌, ◌-◌, ◌*◌, ◌<◌, ◌≤◌, Bool, true, false, cond, eqb, leb, List, [], ◌∷◌, take, drop, ℤ, pos, ◌-ℤ◌, neg_ℤ, Some, None, Option, sym, refl, ap, ◌∙◌, subst, arith, w32, w64, SFits, to_z, of_z}
 use Rattle.std.specs.Char.{digit_value}
-use Rattle.std.specs.List.{starts_with}
+use Rattle.std.specs.Prelude.{bytes_eq}
 use Rattle.std.specs.Option.{option_map}
-use Rattle.std.specs.Result.{result_ok}
-use Rattle.std.specs.Str.{IsAscii, IsUtf8}
-use Rattle.std.specs.Str.Parse.{AllDigits, IsNumeral, digits_value, digits_value_after, without_leading_plus, without_leading_sign, signed_digits_value, ParsesSigned}
-use Rattle.std.proofs.lemmas.Bool.{le-leb, leb-true, eq-eqb, ne_eqb, eqb-true, and_parts, and_from}
-use Rattle.std.proofs.lemmas.Fmt.{IsAscii-from_digits}
+use Rattle.std.specs.Str.Parse.{AllDigits, IsNumeral, digits_value, digits_value_after, without_leading_plus, without_leading_sign, signed_digits_value}
+use Rattle.std.proofs.lemmas.Bool.{le-leb, leb-true, eq-eqb, ne_eqb, and_parts, and_from, both_ways}
+use Rattle.std.proofs.lemmas.Int.{ints}
 use Rattle.std.proofs.lemmas.Option.{cond_some}
-use Rattle.std.proofs.lemmas.Str.{IsUtf8-from_ascii, digit_value_digit}
+use Rattle.std.proofs.lemmas.Str.{digit_value_digit}
 use Rattle.std.proofs.lemmas.Str.Parse.{digit_from_value}
+use Rattle.std.proofs.lemmas.Slice.Eq.{bytes_eq-Decides}
 use Rattle.ports.specs.Words.{digit, magnitude_from, magnitude_of, number_of}
 
 digit_bounds : (d : ℕ) → digit d ≡ true → (48 ≤ d) × (d ≤ 57)
@@ -69,15 +68,11 @@ pub number_negative : (ds : List ℕ) → IsNumeral 10 ds → digits_value 10 ds
 unfolding number_of
 number_negative ds h k = ap (option_map signed) (magnitude_of_gives 2147483648 ds h k)
 
-fits_signed : (n : ℕ) → n ≤ 2147483648 → SFits w32 (signed n)
+pub fits_signed : (n : ℕ) → n ≤ 2147483648 → SFits w32 (signed n)
 fits_signed zero h = record { sfits = omega arith }
 fits_signed (suc n) h = record { sfits = omega arith }
 
-signed_fits : (n : ℕ) → SFits w32 (signed n) → n ≤ 2147483648
-signed_fits zero f = omega arith
-signed_fits (suc n) f = omega (arith, f.sfits)
-
--- What a word spells is what `parse` reads, but for a `+`.
+-- What a word spells, in std's words.
 abbrev signless : Bool → ℕ → List ℕ → List ℕ
 signless t b bs = cond t bs (without_leading_plus (b ∷ bs))
 
@@ -114,54 +109,22 @@ number_reads (b ∷ bs) z e = let k = go (eqb b 45) e in record { numeral = k.0;
         (subst (IsNumeral 10) (sym plus) r.0, subst (SFits w32) k (record { sfits = omega (arith, r.2) }), ap (λ l. pos (digits_value 10 l)) plus ∙ ap pos r.1 ∙ k))
         e
 
-number_gives : (w : List ℕ) → (slice_index_or w 0 0 ≡ 43 → ⊥) → IsNumeral 10 (without_leading_sign w) → SFits w32 (signed_digits_value 10 w) → number_of w ≡ Some (signed_digits_value 10 w)
+-- The word as the code takes it apart: by a `-` in front.
+pub number_minus : (w ds : List ℕ) (o : Option ℕ) → bytes_eq (take 1 w) (45 ∷ []) ≡ true → ds ≡ drop 1 w → o ≡ magnitude_of 2147483648 ds → option_map signed o ≡ number_of w
 unfolding number_of
-number_gives [] n p f = absurd (omega (arith, p.0))
-number_gives (b ∷ bs) n p f = go (eqb b 45) refl p f
-  where
-    go : (t : Bool) → eqb b 45 ≡ t → IsNumeral 10 (signless t b bs) → SFits w32 (value t b bs) → by_minus (eqb b 45) bs (b ∷ bs) ≡ Some (value t b bs)
-    go true t p f = ap (λ (u : Bool). by_minus u bs (b ∷ bs)) t ∙ ap (option_map signed) (magnitude_of_gives 2147483648 bs p (signed_fits (digits_value 10 bs) f))
-    go false t p f =
-        let plus = no_plus b bs n in
-        let q : IsNumeral 10 (b ∷ bs) = subst (IsNumeral 10) plus p in
-        let k : SFits w32 (pos (digits_value 10 (b ∷ bs))) = subst (λ l. SFits w32 (pos (digits_value 10 l))) plus f in
-        ap (λ (u : Bool). by_minus u bs (b ∷ bs)) t ∙ ap (option_map pos) (magnitude_of_gives 2147483647 (b ∷ bs) q (omega (arith, k.sfits)))
-        ∙ ap (λ l. Some (pos (digits_value 10 l))) (sym plus)
+number_minus [] ds o h k e = absurd (let same : [] ≡ 45 ∷ [] = (bytes_eq-Decides [] (45 ∷ [])).0 h in cc)
+number_minus (b ∷ bs) ds o h k e =
+    let same : b ∷ [] ≡ 45 ∷ [] = (bytes_eq-Decides (b ∷ []) (45 ∷ [])).0 h in
+    let minus : b ≡ 45 = cc in
+    ap (option_map signed) (e ∙ ap (magnitude_of 2147483648) k)
+    ∙ ap (λ t. by_minus t bs (b ∷ bs)) (sym (eq-eqb b 45 minus))
 
-pub number_plus : (w : List ℕ) → starts_with eqb w (43 ∷ []) ≡ true → None ≡ number_of w
+pub number_plain : (w : List ℕ) (o : Option ℕ) → bytes_eq (take 1 w) (45 ∷ []) ≡ false → o ≡ magnitude_of 2147483647 w → option_map pos o ≡ number_of w
 unfolding number_of
-number_plus [] h = absurd (cc)
-number_plus (b ∷ bs) h = subst (λ x. None ≡ by_minus (eqb x 45) bs (x ∷ bs)) (eqb-true 43 b (and_parts (eqb 43 b) true h).0) refl
+number_plain [] o h e = ap (option_map pos) e
+number_plain (b ∷ bs) o h e =
+    let other : b ≡ 45 → ⊥ = λ is. both_ways _ h ((bytes_eq-Decides (b ∷ []) (45 ∷ [])).1 (ap (λ x. x ∷ []) is)) in
+    ap (option_map pos) e ∙ ap (λ t. by_minus t bs (b ∷ bs)) (sym (ne_eqb b 45 other))
 
-first_is : (w : List ℕ) → starts_with eqb w (43 ∷ []) ≡ false → slice_index_or w 0 0 ≡ 43 → ⊥
-first_is [] h e = omega arith
-first_is (b ∷ bs) h e = let t : eqb 43 b ≡ true = eq-eqb 43 b (sym e) in let u : (eqb 43 b && true) ≡ true = and_from (eqb 43 b) true t refl in cc
-
-pub number_parsed : {E : Type 0} (w : List ℕ) (r : Result ℤ E) → starts_with eqb w (43 ∷ []) ≡ false → ParsesSigned w32 10 w r → result_ok r ≡ number_of w
-number_parsed w (Ok z) h (p, e) = ap Some e ∙ sym (number_gives w (first_is w h) p.0 p.1)
-number_parsed w (Err x) h none = go (number_of w) refl
-  where
-    go : (o : Option ℤ) → number_of w ≡ o → None ≡ o
-    go None e = refl
-    go (Some z) e = let r = number_reads w z e in absurd (none (r.numeral, subst (SFits w32) (sym r.same) r.fits))
-
--- A word that spells a number is ASCII.
-after_sign : (b : ℕ) (bs : List ℕ) → b < 128 → AllDigits 10 bs → IsAscii (b ∷ bs)
-after_sign b bs h d zero = h
-after_sign b bs h d (suc i) = IsAscii-from_digits bs d i
-
-ascii : (w : List ℕ) → IsNumeral 10 (without_leading_sign w) → IsAscii w
-ascii [] p = λ i. omega (arith, p.0)
-ascii (b ∷ bs) p = go (eqb b 45) refl (eqb b 43) refl p
-  where
-    go : (t : Bool) → eqb b 45 ≡ t → (u : Bool) → eqb b 43 ≡ u → IsNumeral 10 (cond t bs (drop (cond u 1 0) (b ∷ bs))) → IsAscii (b ∷ bs)
-    go true e u f p = after_sign b bs (omega (arith, eqb-true b 45 e)) p.1
-    go false e true f p = after_sign b bs (omega (arith, eqb-true b 43 f)) p.1
-    go false e false f p = IsAscii-from_digits (b ∷ bs) p.1
-
-pub number_no_text : (w : List ℕ) → (IsUtf8 w → ⊥) → None ≡ number_of w
-number_no_text w not_text = go (number_of w) refl
-  where
-    go : (o : Option ℤ) → number_of w ≡ o → None ≡ o
-    go None e = refl
-    go (Some z) e = absurd (not_text (IsUtf8-from_ascii w (ascii w (number_reads w z e).numeral)))
+pub seen_neg : (n : ℕ) (z : ℤ) → z ≡ pos n → n ≤ 2147483648 → to_z w64 (of_z w64 (pos 0 -ℤ to_z w64 (of_z w64 z))) ≡ neg_ℤ (pos n)
+seen_neg n z e h = omega (arith, ints)

@@ -9,7 +9,7 @@
 //! written are the spellings of the numbers written, one after another, and what was spelled is read back.
 //!
 //! Nothing is allocated. A call of a list port or of a fence takes constant time beside that of the port below. A read of
-//! a text is one pass over the bytes up to the end of the next word, and two more over that word; a write changes 12 bytes
+//! a text is one pass over the bytes up to the end of the next word, and one more over that word; a write changes 12 bytes
 //! at most; `malformed` is such a read for each word up to the first that is malformed.
 #![tactic(auto)]
 

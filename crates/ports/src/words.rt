@@ -1,10 +1,15 @@
 //! The words of a text, and the numbers that they spell.
 ghost use Rattle.std.specs.Prelude.{◌≡◌, ◌≤◌, length, position};
 ghost use Rattle.std.specs.List.{before_first};
-ghost use Rattle.ports.specs.Words.{blank, solid, number_of, malformed_in};
+ghost use Rattle.ports.specs.Words.{blank, solid, magnitude_of, number_of, malformed_in};
 
 use crate::faults::Malformed;
-use std::str;
+
+/// The largest number of 32 bits.
+const LARGEST: u32 = 2_147_483_647;
+
+/// How far the least number of 32 bits is below zero.
+const DEEPEST: u32 = 2_147_483_648;
 
 fn is_blank(b: u8) -> bool
     ensures { result ≡ blank b }
@@ -63,14 +68,33 @@ impl<'t> Iterator for Words<'t> {
     }
 }
 
+/// The number that digits spell, one at least, if it is at most `most`.
+fn magnitude(digits: &[u8], most: u32) -> Option<u32>
+    ensures { result ≡ magnitude_of most digits.now }
+{
+    if digits.is_empty() {
+        return None;
+    }
+    let mut value: u32 = 0;
+    for b in digits {
+        if !b.is_ascii_digit() {
+            return None;
+        }
+        value = value.checked_mul(10)?.checked_add(u32::from(*b - b'0'))?;
+    }
+    Some(value).filter(|n| *n <= most)
+}
+
 /// The number that a word spells: a `+` is no part of one.
 pub fn number(word: &[u8]) -> Option<i32>
     ensures { result ≡ number_of word.now }
 {
-    if word.starts_with(b"+") {
-        return None;
+    if let Some(digits) = word.strip_prefix(b"-") {
+        let n = magnitude(digits, DEEPEST)?;
+        return Some(-i64::from(n) as i32);
     }
-    str::from_utf8(word).ok()?.parse().ok()
+    let n = magnitude(word, LARGEST)?;
+    Some(n as i32)
 }
 
 /// The first word of a text that spells no number.

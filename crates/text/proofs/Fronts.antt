@@ -1,5 +1,5 @@
 -- The token at the front of a text, by the class of its first byte.
-use Rattle.std.proofs.Common.{◌≡◌, ℕ, suc, ◌<◌, Bool, true, false, cond, ◌||◌, List, [], ◌∷◌, length, get_or, take, Some, None, Ok, Err, Option, Result, sym, refl, ap, ◌∙◌, subst, arith}
+use Rattle.std.proofs.Common.{◌≡◌, ℕ, suc, ◌<◌, Bool, true, false, cond, ◌||◌, List, [], ◌∷◌, length, get_or, take, Some, None, Ok, Err, Option, Result, sym, refl, ap, ◌∙◌, arith}
 use Rattle.std.specs.List.{prefix_len}
 use Rattle.std.proofs.lemmas.Bool.{both_ways}
 use Rattle.std.proofs.lemmas.Option.{none-some}
@@ -10,12 +10,11 @@ use Rattle.text.specs.declared.tokens.LexFault.{LexFault}
 use Rattle.text.specs.declared.tokens.LexFault.TheVariants.{NoToken}
 use Rattle.text.specs.declared.tokens.Token.TheVariants as token
 use Rattle.text.specs.Classes.{class_of, is_class}
-use Rattle.text.specs.Laws.{Digits}
 use Rattle.text.specs.Lexemes.{letter, digit, part, word_means, number_means, magnitude_of, meaning, width, sign_width, sign_means}
 use Rattle.text.specs.Spellings.{keyword_of, sign_at, sign_of, spelled_sign}
 use Rattle.text.specs.Steps.{sized, front}
 use Rattle.text.specs.Tokens.{Lexeme}
-use Rattle.text.proofs.Runs.{run_some, run_each}
+use Rattle.text.proofs.Runs.{run_some}
 use Rattle.text.proofs.Signs.{signed, sign_front, sign_class_lem}
 
 abbrev pub width_by : Bool → Bool → List ℕ → ℕ
@@ -62,13 +61,6 @@ pub front_number : (xs : List ℕ) (n m : ℕ) → 0 < length xs → class_of (g
 front_number [] n m h e r k = absurd (omega arith)
 front_number (b ∷ bs) n m h e r k =
     front_run digit b bs false true n m (ap (λ c. is_class c class.Letter) e) (ap (λ c. is_class c class.Digit) e) (ap (λ c. is_class c class.Digit) e) refl r k
-
-pub front_digits : (xs : List ℕ) (n : ℕ) → 0 < length xs → class_of (get_or xs 0 0) ≡ class.Digit → n ≡ prefix_len digit xs → Digits (take n xs)
-front_digits [] n h e r = absurd (omega arith)
-front_digits (b ∷ bs) n h e r =
-    let d = ap (λ c. is_class c class.Digit) e in
-    let one = run_some digit b bs d in
-    subst (λ m. Digits (take m (b ∷ bs))) (sym (r ∙ one)) (d, run_each digit bs)
 
 -- neither
 front_other : (xs : List ℕ) → letter (get_or xs 0 0) ≡ false → digit (get_or xs 0 0) ≡ false → (o : Option Sign) → sign_at xs ≡ o → front xs ≡ sized (sign_width o) (meaning (take (sign_width o) xs))

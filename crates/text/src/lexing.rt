@@ -2,7 +2,7 @@
 ghost use Rattle.std.specs.Prelude.{◌≡◌, ◌<◌, ◌≤◌, length, drop, None, MatchResult};
 ghost use Rattle.std.specs.List.{prefix_len};
 ghost use Rattle.text.specs.Spellings.{keyword_of, sign_at};
-ghost use Rattle.text.specs.Laws.{Digits, Stepped, Counted};
+ghost use Rattle.text.specs.Laws.{Stepped, Counted};
 ghost use Rattle.text.specs.Lexings.{lexed, counted};
 ghost use Rattle.text.specs.Lexemes.{blank, part, magnitude_of, word_means, number_means};
 ghost use Rattle.text.specs.Steps.{gap, answered, front, meant, taken};
@@ -11,7 +11,6 @@ use crate::classes::{ByteClass, class_of};
 use crate::places::Placed;
 use crate::spellings::{Sign, Spelled, keyword_of, sign_of};
 use crate::tokens::{LexFault, Token};
-use std::str;
 
 /// The most bytes that a text may have.
 pub const TEXT_LIMIT: usize = 16_384;
@@ -41,10 +40,14 @@ fn blanks(rest: &[u8]) -> usize
 
 /// The number that decimal digits spell, if it is at most 2,147,483,648.
 fn magnitude(digits: &[u8]) -> Option<u32>
-    ensures { Digits digits.now → result ≡ magnitude_of digits.now }
+    ensures { result ≡ magnitude_of digits.now }
 {
-    let value = str::from_utf8(digits).ok()?.parse().ok();
-    value.filter(|n| *n <= LARGEST)
+    let mut value: u32 = 0;
+    for b in digits {
+        let digit = u32::from(b.saturating_sub(b'0'));
+        value = value.checked_mul(10)?.checked_add(digit)?;
+    }
+    Some(value).filter(|n| *n <= LARGEST)
 }
 
 /// The keyword or the name that a word is.
@@ -60,7 +63,7 @@ fn word<'a>(bytes: &'a [u8]) -> Result<Token<&'a [u8]>, LexFault>
 
 /// The number that decimal digits spell.
 fn number<'a>(digits: &'a [u8]) -> Result<Token<&'a [u8]>, LexFault>
-    ensures { Digits digits.now → meant result ≡ number_means (magnitude_of digits.now) }
+    ensures { meant result ≡ number_means (magnitude_of digits.now) }
 {
     let value = magnitude(digits).ok_or(LexFault::NumberTooLarge)?;
     Ok(Token::Number(value))

@@ -1,16 +1,21 @@
-use Rattle.std.proofs.Common.{◌≡◌, leb, None, MatchOption, sym, ◌∙◌, rules}
-use Rattle.std.specs.Bool.{then_some}
-use Rattle.std.specs.Result.{result_ok}
-use Rattle.text.proofs.Numbers.{digits_text, magnitude_read}
+use Rattle.std.proofs.Common.{◌≡◌, ◌+◌, ◌*◌, ◌≤◌, drop, None, ◌∙◌, arith, rules}
+use Rattle.text.proofs.Numbers.{value_more, magnitude_large}
 use Rattle.text.proofs.lexing.magnitude.Goals as goal
 
--- digits are text
-pub returns-in_err-ok : goal.returns-in_err-ok
-returns-in_err-ok c = λ h.
-    absurd (digits_text _ _ c.args.digits.now c.from_utf8.result h c.from_utf8.ensures.cases (sym c.ok.ensures.value ∙ c.in_err-ok.was))
+pub returns-in_err-checked_mul : goal.returns-in_err-checked_mul
+returns-in_err-checked_mul c =
+    let none : c.from_residual.result ≡ None = search rules in
+    let big : 4294967296 ≤ c.loop-b.value * 10 = search rules in
+    none
+    ∙ magnitude_large (c.loop-b.value * 10 + c.from-digit.result) c.args.digits.now (drop (c.loop-b.b-index + 1) c.args.digits.now)
+    (value_more c.loop-b.value c.from-digit.result c.args.digits.now c.loop-b.b-index c.loop-b-test.true (c.from-digit.ensures ∙ c.saturating_sub.ensures) ∙ c.loop-b.invariant)
+    (omega arith)
 
-pub returns : goal.returns
-returns c = λ d.
-    let same : c.in_ok-ok.field-0.now ≡ c.args.digits.now = search rules in
-    let h : MatchOption (result_ok c.parse.result) (c.filter.result ≡ None) (λ x. c.filter.result ≡ then_some (leb x 2147483648) x) = search rules in
-    magnitude_read c.args.digits.now c.parse.result c.filter.result d (rw same at c.parse.ensures.value.0) h
+pub returns-in_err-value : goal.returns-in_err-value
+returns-in_err-value c =
+    let none : c.from_residual-in_err-value.result ≡ None = search rules in
+    let big : 4294967296 ≤ c.loop-b.value * 10 + c.from-digit.result = search rules in
+    none
+    ∙ magnitude_large (c.loop-b.value * 10 + c.from-digit.result) c.args.digits.now (drop (c.loop-b.b-index + 1) c.args.digits.now)
+    (value_more c.loop-b.value c.from-digit.result c.args.digits.now c.loop-b.b-index c.loop-b-test.true (c.from-digit.ensures ∙ c.saturating_sub.ensures) ∙ c.loop-b.invariant)
+    (omega arith)

@@ -12,7 +12,7 @@ use Rattle.text.specs.declared.classes.ByteClass.TheVariants as class
 use Rattle.text.specs.declared.tokens.Token.TheVariants as token
 use Rattle.text.specs.Lexemes.{part, digit}
 use Rattle.text.specs.Steps.{sized, meant, taken}
-use Rattle.text.proofs.Fronts.{front_word, front_digits, front_number, front_sign, front_none, front_unknown}
+use Rattle.text.proofs.Fronts.{front_word, front_number, front_sign, front_none, front_unknown}
 use Rattle.text.proofs.lexing.token_at.Goals as goal
 
 pub returns-in-Letter : goal.returns-in-Letter
@@ -33,9 +33,8 @@ returns-in-Digit c =
     (YieldsList-from_take_while _ digit (YieldsList-from_slice c.args.rest.now cc) c.take_while-in-Digit.ensures.closure c.take_while-in-Digit.ensures.done (λ x b q k. search (rules, tests)))
     ∙ length-prefix_len digit c.args.rest.now in
     let s : taken c.map-in-Digit.result ≡ sized c.count-n-in-Digit.result (meant c.number.result) = search rules in
-    let digits = front_digits c.args.rest.now c.count-n-in-Digit.result c.requires (sym c.class_of.ensures ∙ c.in-Digit.is) n in
     s
-    ∙ ap (sized c.count-n-in-Digit.result) (c.number.ensures digits)
+    ∙ ap (sized c.count-n-in-Digit.result) c.number.ensures
     ∙ sym (front_number c.args.rest.now c.count-n-in-Digit.result _ c.requires (sym c.class_of.ensures ∙ c.in-Digit.is) n refl)
 
 pub returns-in_ok-sign-in-Sign : goal.returns-in_ok-sign-in-Sign
