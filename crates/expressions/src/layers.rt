@@ -4,7 +4,7 @@ ghost use Rattle.grammar.specs.TokenClasses.{class_number};
 ghost use Rattle.syntax.specs.Nodes.{operator_kind};
 ghost use Rattle.expressions.specs.Layers.{first_sign, other_signs};
 
-use grammar::classing::TokenClass;
+use grammar::classing::{Asked, TokenClass};
 use table::kinds::Kind;
 use text::spellings::Sign;
 
@@ -33,18 +33,26 @@ impl Layer {
 }
 
 /// The kind of node that an operator makes.
-pub fn operator_kind(class: TokenClass) -> Kind
-    ensures { result ≡ operator_kind (class_number class) }
+pub fn operator_kind<C: Asked>(class: C) -> Kind
+    ensures { result ≡ operator_kind (C.asked class) }
 {
-    match class {
-        TokenClass::Sign(Sign::Times) => Kind::Times,
-        TokenClass::Sign(Sign::Divide) => Kind::Divide,
-        TokenClass::Sign(Sign::Plus) => Kind::Plus,
-        TokenClass::Sign(Sign::Minus) => Kind::Minus,
-        TokenClass::Sign(Sign::Equal) => Kind::Equal,
-        TokenClass::Sign(Sign::Less) => Kind::Less,
-        TokenClass::Sign(Sign::AtMost) => Kind::AtMost,
-        TokenClass::Sign(Sign::And) => Kind::And,
-        _ => Kind::Or,
+    if class.is(TokenClass::Sign(Sign::Times)) {
+        Kind::Times
+    } else if class.is(TokenClass::Sign(Sign::Divide)) {
+        Kind::Divide
+    } else if class.is(TokenClass::Sign(Sign::Plus)) {
+        Kind::Plus
+    } else if class.is(TokenClass::Sign(Sign::Minus)) {
+        Kind::Minus
+    } else if class.is(TokenClass::Sign(Sign::Equal)) {
+        Kind::Equal
+    } else if class.is(TokenClass::Sign(Sign::Less)) {
+        Kind::Less
+    } else if class.is(TokenClass::Sign(Sign::AtMost)) {
+        Kind::AtMost
+    } else if class.is(TokenClass::Sign(Sign::And)) {
+        Kind::And
+    } else {
+        Kind::Or
     }
 }

@@ -1,6 +1,6 @@
 //! Classes of tokens.
-ghost use Rattle.std.specs.Prelude.{◌≡◌};
-ghost use Rattle.grammar.specs.TokenClasses.{keyword_class, sign_class, class_number, class_of};
+ghost use Rattle.std.specs.Prelude.{◌≡◌, ℕ, ◌==◌, map};
+ghost use Rattle.grammar.specs.TokenClasses.{keyword_class, sign_class, class_number, class_of, among};
 ghost use Rattle.text.specs.Tokens.{lexeme};
 
 use text::spellings::{Keyword, Sign};
@@ -35,6 +35,56 @@ impl TokenClass {
             TokenClass::Number => 52,
             TokenClass::Large => 53,
         }
+    }
+}
+
+/// What asks for a token of a class: the class, or any number in its place. A number that no class has is no token's.
+pub trait Asked: Copy {
+    // The number that is asked for.
+    ghost asked: { Self → ℕ };
+
+    /// The number that it asks for.
+    fn number(self) -> u8
+        ensures { result ≡ asked self };
+
+    /// Whether it asks for a class.
+    fn is(self, class: TokenClass) -> bool
+        ensures { result ≡ (class_number class == asked self) }
+    {
+        class.number() == self.number()
+    }
+
+    /// Whether one of several asks for a class.
+    fn among(several: &[Self], class: TokenClass) -> bool
+        ensures { result ≡ among (map asked several.now) (class_number class) };
+}
+
+// Classes are compared without their numbers.
+impl Asked for TokenClass {
+    ghost asked = { class_number };
+
+    fn number(self) -> u8 {
+        TokenClass::number(self)
+    }
+
+    fn is(self, class: TokenClass) -> bool {
+        class == self
+    }
+
+    fn among(several: &[TokenClass], class: TokenClass) -> bool {
+        several.contains(&class)
+    }
+}
+
+impl Asked for u8 {
+    ghost asked = { λ n. n };
+
+    fn number(self) -> u8 {
+        self
+    }
+
+    fn among(several: &[u8], class: TokenClass) -> bool {
+        several.contains(&class.number())
     }
 }
 

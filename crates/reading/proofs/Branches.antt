@@ -12,7 +12,7 @@ use Rattle.syntax.specs.Syntax.{G, rule}
 use Rattle.reading.specs.declared.readers.Reader.{Reader}
 use Rattle.reading.specs.States.{State, stream_of, state_of, Answer, done, written, Reads, Builds}
 use Rattle.reading.specs.Steps.{front_of, taken}
-use Rattle.reading.proofs.Sequences.{Left, Whole, unit, leaf_made}
+use Rattle.reading.proofs.Sequences.{Left, Whole, unit, pair, leaf_made}
 
 -- ---- the same, read as a part of something
 
@@ -170,7 +170,7 @@ none_of c (x ∷ cs) h = ap (λ b. b || among cs c) (ne_eqb c x h.0) ∙ none_of
 pub then_part : {Y : Type 0} {R : Read Y} {a m : Reader} {d : ℕ} {g h : G} {f : TreeAt rule d g → Y} {ms : List Node} {k : ℕ} (j : TreeAt rule d h → TreeAt rule d g) → Left R a m d g f ms k → parse_at rule d g (stream_of m) ≡ bind (parse_at rule d h (stream_of m)) (λ x t. Ok (j x, t)) → Left R a m d h (λ x. f (j x)) ms k
 then_part {m = m} {d = d} {h = h} {f = f} j s e =
     let p = s.part in
-    record { part = record { left = p.left ∙ ap (λ r. bind r (λ x t. Ok (f x, t))) e ∙ twice j f (parse_at rule d h (stream_of m)); lends = p.lends; onward = p.onward; state = p.state; paced = p.paced } }
+    record { part = record { left = p.left ∙ ap (λ r. bind r (λ x t. Ok (f x, t))) e ∙ twice j f (parse_at rule d h (stream_of m)); lends = p.lends; source = p.source; onward = p.onward; state = p.state; paced = p.paced } }
 
 pub on_branch : {Y : Type 0} {R : Read Y} {a m : Reader} {d : ℕ} {g : G} {f : TreeAt rule d g → Y} {ms : List Node} {k : ℕ} (cl : ℕ) → Left R a m d g f ms k → front_of (stream_of m) ≡ cl → Left R a m d (branch_of cl g) (λ x. f (inject d cl g x)) ms k
 on_branch {m = m} {d = d} {g = g} cl s e = then_part (inject d cl g) s (branched_by d cl g (stream_of m) e)
@@ -185,7 +185,13 @@ nothing d = tt
 
 pub on_nil : {Y : Type 0} {R : Read Y} {a m : Reader} {d : ℕ} {f : TreeAt rule d nil → Y} {ms : List Node} {k : ℕ} → Left R a m d nil f ms k → Whole R a m (f (nothing d)) ms k
 unfolding Tree parse nothing
-on_nil s = let p = s.part in record { part = record { left = p.left; lends = p.lends; onward = p.onward; state = p.state; paced = p.paced } }
+on_nil s = let p = s.part in record { part = record { left = p.left; lends = p.lends; source = p.source; onward = p.onward; state = p.state; paced = p.paced } }
+
+pub past_nil : {Y : Type 0} {R : Read Y} {a m : Reader} {d : ℕ} {h : G} {f : TreeAt rule d (seq nil h) → Y} {ms : List Node} {k : ℕ} → Left R a m d (seq nil h) f ms k → Left R a m d h (λ x. f (pair d nil h (nothing d) x)) ms k
+unfolding Tree parse nothing pair
+past_nil {m = m} {d = d} {h = h} {f = f} s =
+    let p = s.part in
+    record { part = record { left = p.left ∙ twice (λ x. pair d nil h (nothing d) x) f (parse_at rule d h (stream_of m)); lends = p.lends; source = p.source; onward = p.onward; state = p.state; paced = p.paced } }
 
 -- the first alternative is begun
 first_of : (d : ℕ) (g h : G) (s : Stream) → among (firsts g) (front_of s) ≡ true → parse_at rule d (alt g h) s ≡ bind (parse_at rule d g s) (λ x t. Ok (left_tree d g h x, t))

@@ -10,3 +10,4 @@ pub mod Nests
 pub mod Sequences
 pub mod Taking
 pub mod Values
+pub mod Written

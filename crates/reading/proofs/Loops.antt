@@ -69,12 +69,12 @@ no_more_lem d g h f s b =
 -- an item is read, and what is written for it makes up what the turn makes
 going_on : {Y : Type 0} {out : Makes Y} {R : Read Y} {a m : Reader} {d : ℕ} {g : G} {turn : Made → TreeAt rule d g → Made} {i p : ℕ} (b : Reader) (j q : ℕ) → Item g → (w : Going out R a m d g turn i p) (x : TreeAt rule d g)
     → among (firsts g) (front_of (stream_of m)) ≡ true → parse_at rule d g (stream_of m) ≡ Ok (x, stream_of b)
-    → Lends m b → a.place ≤ b.place → b.count + a.place ≤ a.count + b.place
+    → Lends m b → b.lexer.source ≡ m.lexer.source → a.place ≤ b.place → b.count + a.place ≤ a.count + b.place
     → state_of b ≡ applied (turn w.made x).nodes (stream_of b) (state_of a)
     → j ≡ (turn w.made x).number → q ≡ (turn w.made x).place
     → Going out R a b d g turn j q
 unfolding cons items
-going_on {d = d} {g} {turn} b j q h w x begins e lends on pace state number place =
+going_on {d = d} {g} {turn} b j q h w x begins e lends same_text on pace state number place =
     record {
       made = turn w.made x;
       rest = λ z. w.rest (cons d g x z);
@@ -84,6 +84,7 @@ going_on {d = d} {g} {turn} b j q h w x begins e lends on pace state number plac
                 record {
                   left = w.left.part.left ∙ more_ok d g h w.rest _ (stream_of b) x begins e;
                   lends = lends ∙ w.left.part.lends;
+                  source = same_text ∙ w.left.part.source;
                   onward = on;
                   state = state;
                   paced = omega arith;
@@ -99,7 +100,7 @@ pub ends : {Y : Type 0} {out : Makes Y} {R : Read Y} {a m : Reader} {d : ℕ} {g
 ends {out = out} {a = a} {m} {d} {g} {turn} {i} {p} h w stops =
     let s = w.left.part in
     let pace = s.paced in
-    let y : Whole _ a m (w.rest (items d g [])) w.made.nodes 0 = record { part = record { left = s.left ∙ no_more_lem d g h w.rest (stream_of m) stops; lends = s.lends; onward = s.onward; state = s.state; paced = s.paced } } in
+    let y : Whole _ a m (w.rest (items d g [])) w.made.nodes 0 = record { part = record { left = s.left ∙ no_more_lem d g h w.rest (stream_of m) stops; lends = s.lends; source = s.source; onward = s.onward; state = s.state; paced = s.paced } } in
     pass y ((λ k. record { nodes = w.made.nodes; number = w.number k; place = w.place k }) ∙ sym (w.folds []))
 
 -- an item is refused
@@ -127,7 +128,7 @@ turns {a = a} {m} {b} {j = j} {q} {act} h w begins r is =
     let on' = r.goes.onward in
     let pace' = r.goes.paced in
     let k = is x in
-    going_on b j q h w x begins g.read r.lends (omega arith) (omega arith)
+    going_on b j q h w x begins g.read r.lends r.goes.source (omega arith) (omega arith)
     (g.state ∙ ap (λ n. applied (act x n).nodes (stream_of b) (state_of m)) many ∙ ap (applied (act x _).nodes (stream_of b)) s.state ∙ applied_append w.made.nodes (act x _).nodes (stream_of b) (stream_of m) (state_of a) ∙ ap (λ (z : Made). applied z.nodes (stream_of b) (state_of a)) k)
     (g.number ∙ ap (λ n. (act x n).number) many ∙ ap (λ (z : Made). z.number) k)
     (g.place ∙ ap (λ n. (act x n).place) many ∙ ap (λ (z : Made). z.place) k)
@@ -223,7 +224,7 @@ joined_at {out = out} {R} {a} {m} {b} {d} {g} {turn} {p} {act} e zero last next 
     let sized = ap (λ n. length (act x n).nodes) many in
     let item = act x (a.count + length made.nodes) in
     let there : Going out R a b d g turn next 0 =
-    going_on b next 0 h w.going x begins q.read s.lends (omega arith) (omega arith)
+    going_on b next 0 h w.going x begins q.read s.lends s.goes.source (omega arith) (omega arith)
     (q.state ∙ ap (λ n. applied (act x n).nodes (stream_of b) (state_of m)) many ∙ ap (applied item.nodes (stream_of b)) part.state ∙ applied_append made.nodes item.nodes (stream_of b) (stream_of m) (state_of a) ∙ ap (λ ms. applied (ms ++ item.nodes) (stream_of b) (state_of a)) (none ∙ sym (ap (next_last item.number) none)) ∙ ap (λ (z : Made). applied z.nodes (stream_of b) (state_of a)) k)
     (number ∙ ap (λ f. first_or f item.number) w.going.number ∙ ap (λ (z : Made). z.number) k)
     (ap (λ (z : Made). z.place) k) in
@@ -253,7 +254,7 @@ joined_at {out = out} {R} {a} {m} {b} {d} {g} {turn} {p} {act} e (suc f) last ne
     let there = q.state ∙ ap (λ n. applied (act x n).nodes (stream_of b) (state_of m)) many ∙ ap (applied item.nodes (stream_of b)) part.state ∙ applied_append made.nodes item.nodes (stream_of b) (stream_of m) (state_of a) in
     record {
       going =
-          going_on e r 0 h w.going x begins (q.read ∙ ap (λ z. Ok (x, z)) (sym stream)) (stays.lender ∙ s.lends) (omega arith) (omega arith)
+          going_on e r 0 h w.going x begins (q.read ∙ ap (λ z. Ok (x, z)) (sym stream)) (stays.lender ∙ s.lends) (ap (λ l. l.source) stays.lexer ∙ s.goes.source) (omega arith) (omega arith)
           (linked_state a b e last next made.nodes item.nodes there c.1 (is ∙ many) some ∙ ap (λ n. applied (next_last n made.nodes ++ item.nodes) (stream_of e) (state_of a)) number ∙ ap (λ (z : Made). applied z.nodes (stream_of e) (state_of a)) k)
           (c.0 ∙ ap (λ n. first_or n item.number) first ∙ ap (λ (z : Made). z.number) k)
           (ap (λ (z : Made). z.place) k);
@@ -273,7 +274,7 @@ unfoldable pub goes_from : {Y : Type 0} {out : Makes Y} {R : Read Y} {a m : Read
 goes_from {f = f} made s folds number place =
     let p = s.part in
     let pace = p.paced in
-    record { made = made; rest = f; left = record { part = record { left = p.left; lends = p.lends; onward = p.onward; state = p.state; paced = omega arith } }; folds = folds; number = number; place = place }
+    record { made = made; rest = f; left = record { part = record { left = p.left; lends = p.lends; source = p.source; onward = p.onward; state = p.state; paced = omega arith } }; folds = folds; number = number; place = place }
 
 -- a list before its first member, and one of its first
 pub lists_from : {Y : Type 0} {out : Makes Y} {R : Read Y} {a m : Reader} {d : ℕ} {g : G} {turn : Made → TreeAt rule d g → Made} {f : TreeAt rule d (many g) → Y} {k : ℕ} → Left R a m d (many g) f [] k → ((xs : List (TreeAt rule d g)) → out (f (items d g xs)) a.count ≡ folded turn none xs) → Listing out R a m d g turn 0

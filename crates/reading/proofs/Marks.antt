@@ -112,6 +112,7 @@ pub take_mark : (d c : ℕ) (cs : List ℕ) {a b : Reader} {r : Answer} → Take
 take_mark d c cs {a} t =
     record {
       reads = record { lends = t.reads.lends; goes = t.reads.goes; reads = t.reads.reads ∙ ap (written mark_made (state_of a)) (any_is d c cs (stream_of a).tokens (stream_of a).verdict) ∙ told_written d c cs (state_of a) (parse_at rule d (any_of c cs) (stream_of a)) };
+      keeps = t.keeps;
       steps = t.steps;
     }
 
@@ -130,7 +131,7 @@ stop_mark {d = d} c cs s r = stop s (take_mark d c cs r).reads
 pub not_any : (cs : List ℕ) (a : Reader) {f : Refusal} → f ≡ misfit_of (stream_of a) → among cs (front_of (stream_of a)) ≡ false → Takes mark_made (any_taken cs (stream_of a)) a (Err f) a
 not_any cs a m n =
     let read = go (stream_of a).tokens (stream_of a).verdict n ∙ ap Err (sym m) in
-    record { reads = record { lends = refl; goes = tt; reads = sym (ap (written mark_made (state_of a)) read) }; steps = tt }
+    record { reads = record { lends = refl; goes = tt; reads = sym (ap (written mark_made (state_of a)) read) }; keeps = (refl, refl); steps = tt }
   where
     go : (ts : List (Placed Lexeme)) (v : Verdict) → among cs (front_of (record { tokens = ts; verdict = v })) ≡ false → any_taken cs (record { tokens = ts; verdict = v }) ≡ Err (misfit ts v)
     go [] v n = refl
@@ -159,5 +160,6 @@ any_took cs c {a} {b} {p = p} f h t =
     let class = eqb-true (class_of g.tree.0.item) c g.tree.1 in
     record {
       reads = record { lends = t.reads.lends; goes = t.reads.goes; reads = ap (λ s. Ok (c, p, s)) g.state ∙ ap (λ q. Ok (c, q, applied [] (stream_of b) (state_of a))) g.place ∙ ap (λ k. Ok (k, g.tree.0.place, applied [] (stream_of b) (state_of a))) (sym class) ∙ sym (ap (written mark_made (state_of a)) read) };
+      keeps = t.keeps;
       steps = t.steps;
     }

@@ -16,7 +16,7 @@ use Rattle.syntax.specs.Nodes.{Made, Makes, with, over, titled, valued}
 use Rattle.syntax.specs.Syntax.{G, rule}
 use Rattle.reading.specs.declared.readers.Reader.{Reader}
 use Rattle.reading.specs.Steps.{taken, token_made, name_made}
-use Rattle.reading.specs.States.{State, stream_by, stream_of, state_of, Stays, Lends, Recorded, Answer, shown, applied, done, written, Reads, Takes, Builds}
+use Rattle.reading.specs.States.{State, stream_by, stream_of, state_of, Stays, Lends, Keeps, Recorded, Answer, shown, applied, done, written, Reads, Takes, Builds}
 
 -- ---- states
 
@@ -83,6 +83,7 @@ refused {X} {act} {R} {a} {f} {b} r = refused_from act R (state_of a) f r.reads
 pub record Partly {Y : Type 0} (R : Read Y) (a m : Reader) (rest : Read Y) (ms : List Node) (k : ℕ) : Type 0 where
   pub left : R ≡ rest
   pub lends : Lends a m
+  pub source : m.lexer.source ≡ a.lexer.source
   pub onward : a.place ≤ m.place
   pub state : state_of m ≡ applied ms (stream_of m) (state_of a)
   pub paced : m.count + a.place + k ≤ a.count + m.place
@@ -93,6 +94,7 @@ start a e =
     record {
       left = e;
       lends = refl;
+      source = refl;
       onward = omega arith;
       state = ap (λ k. record { stream = stream_of a; count = k; table = a.table.now }) (let z : a.count ≡ a.count + 0 = omega arith in z);
       paced = omega arith;
@@ -115,6 +117,7 @@ call_on {act = act} {a = a} {m} {b} {ms} c e s r more is =
     record {
       left = s.left ∙ is;
       lends = r.lends ∙ s.lends;
+      source = goes.source ∙ s.source;
       onward = omega arith;
       state = g.state ∙ ap (λ n. applied (act t n).nodes (stream_of b) (state_of m)) e ∙ ap (applied (act t c).nodes (stream_of b)) s.state ∙ applied_append ms (act t c).nodes (stream_of b) (stream_of m) (state_of a);
       paced = omega arith;
@@ -134,6 +137,7 @@ token_on {act = act} {a = a} {m} {b} {ms} silent s r more is =
     record {
       left = s.left ∙ is;
       lends = r.reads.lends ∙ s.lends;
+      source = r.reads.goes.source ∙ s.source;
       onward = omega arith;
       state = g.state ∙ ap (λ ns. applied ns (stream_of b) (state_of m)) (silent g.tree m.count) ∙ ap (applied [] (stream_of b)) s.state ∙ no_nodes ms (stream_of b) (stream_of m) (state_of a);
       paced = omega arith;
@@ -153,8 +157,8 @@ exit {act = act} {R} {a} {b} view r e t = let p = err_from_is_err_and r e in sub
 pub exit_node : {T X : Type 0} {act : Makes X} {R : Read X} {a b : Reader} {f : Refusal} (view : T → ℕ × ℕ) (r : Result T Refusal) → IsErrAnd r (λ y. y ≡ f) → Reads act R a (Err f) b → Builds act R a (shown view r) b
 exit_node {act = act} {R} {a} {b} view r e t = let p = err_from_is_err_and r e in subst (λ x. Builds act R a x b) (sym (ap (shown view) (p.1 ∙ ap Err p.2))) (record { reads = t; last = tt })
 
-pub exit_token : {T X : Type 0} {act : Makes X} {R : Read X} {a b : Reader} {f : Refusal} (view : T → ℕ × ℕ) (r : Result T Refusal) → IsErrAnd r (λ y. y ≡ f) → Reads act R a (Err f) b → Takes act R a (shown view r) b
-exit_token {act = act} {R} {a} {b} view r e t = let p = err_from_is_err_and r e in subst (λ x. Takes act R a x b) (sym (ap (shown view) (p.1 ∙ ap Err p.2))) (record { reads = t; steps = tt })
+pub exit_token : {T X : Type 0} {act : Makes X} {R : Read X} {a b : Reader} {f : Refusal} (view : T → ℕ × ℕ) (r : Result T Refusal) → IsErrAnd r (λ y. y ≡ f) → Reads act R a (Err f) b → Keeps a b → Takes act R a (shown view r) b
+exit_token {act = act} {R} {a} {b} view r e t k = let p = err_from_is_err_and r e in subst (λ x. Takes act R a x b) (sym (ap (shown view) (p.1 ∙ ap Err p.2))) (record { reads = t; keeps = k; steps = tt })
 
 -- a token's answer, where the result is known in other words
 pub as_result : {T X : Type 0} {act : Makes X} {R : Read X} {a b : Reader} (view : T → ℕ × ℕ) {r s : Result T Refusal} → r ≡ s → Takes act R a (shown view r) b → Takes act R a (shown view s) b
@@ -326,7 +330,7 @@ pass {out = out} {a = a} {m} {y} {ms} {k} {i} {p} w e =
     let pace = s.paced in
     record {
       lends = s.lends;
-      goes = record { onward = s.onward; paced = omega arith };
+      goes = record { source = s.source; onward = s.onward; paced = omega arith };
       reads = ap (λ st. Ok (i, p, st)) s.state ∙ ap (λ (z : Made). done (state_of a) z (stream_of m)) (e ∙ ap (out y) (sym (count_is a))) ∙ sym (ap (written out (state_of a)) s.left);
     }
 
@@ -348,6 +352,7 @@ node {out = out} {R} {a} {m} {d} {y} {ms} {k} {raw} {top} {r} whole w is e =
           record {
             left = s.left ∙ ap (λ z. Ok (y, z)) (sym here');
             lends = w.stays.lender ∙ s.lends;
+            source = ap (λ l. l.source) w.stays.lexer ∙ s.source;
             onward = omega arith;
             state = recorded_state m d raw r w ∙ ap (λ x. applied (x ∷ []) (stream_of d) (state_of m)) is ∙ ap (applied (top ∷ []) (stream_of d)) s.state ∙ applied_append ms (top ∷ []) (stream_of d) (stream_of m) (state_of a);
             paced = omega arith;

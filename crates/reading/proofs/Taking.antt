@@ -17,7 +17,7 @@ use Rattle.grammar.specs.Streams.{Stream, Refusal, from}
 use Rattle.grammar.specs.TokenClasses.{class_of, is_class}
 use Rattle.grammar.proofs.Inversions.{never_ok, passed_on}
 use Rattle.reading.specs.declared.readers.Reader.{Reader}
-use Rattle.reading.specs.States.{stream_by, stream_of, IsAhead, state_of, Lends, applied, written, Takes}
+use Rattle.reading.specs.States.{stream_by, stream_of, IsAhead, state_of, Lends, Keeps, applied, written, Takes}
 use Rattle.reading.specs.Steps.{tail_of, front_of, misfit_of, taken, opened, token_made}
 use Rattle.reading.proofs.Advancing.{advance_ok, advance_err}
 
@@ -62,8 +62,8 @@ pub front : (a : Reader) → front_of (stream_of a) ≡ class_of (lexeme a.token
 front a = front_class_lem (lexeme a.token) a.place _
 
 -- the token ahead was taken
-pub took : (c : ℕ) (a b : Reader) → IsAhead c a → Lends a b → (b.table.now ≡ a.table.now) × (b.count ≡ a.count) → a.place < b.place → Ok (stream_of b) ≡ tail_of (stream_of a) → Takes (token_made c) (taken c (stream_of a)) a (Ok (0, a.place)) b
-took c a b is l w on s =
+pub took : (c : ℕ) (a b : Reader) → IsAhead c a → Lends a b → b.lexer.source ≡ a.lexer.source → Keeps a b → a.place < b.place → Ok (stream_of b) ≡ tail_of (stream_of a) → Takes (token_made c) (taken c (stream_of a)) a (Ok (0, a.place)) b
+took c a b is l same_text w on s =
     let k = taken_here (lexeme a.token) a.place _ c is.0 is.1 in
     let read = k.taken_as ∙ ap (passed (at (lexeme a.token) a.place, k.class)) (sym s) in
     let same = w.1 in
@@ -71,9 +71,10 @@ took c a b is l w on s =
       reads =
           record {
             lends = l;
-            goes = record { onward = omega arith; paced = omega arith };
+            goes = record { source = same_text; onward = omega arith; paced = omega arith };
             reads = ap (λ st. Ok (0, a.place, st)) (taken_state a b w.0 w.1) ∙ sym (ap (written (token_made c) (state_of a)) read);
           };
+      keeps = w;
       steps = (w.1, on);
     }
 
@@ -93,7 +94,7 @@ closed_not t p l c n = go (is_end t) refl
 pub shut_misfit : (d c : ℕ) (a : Reader) {f : Refusal} → d ≤ 0 → f ≡ misfit_of (stream_of a) → (IsAhead c a → ⊥) → Takes (token_made c) (opened d c (stream_of a)) a (Err f) a
 shut_misfit zero c a h m n =
     let read = closed_not (lexeme a.token) a.place _ c (λ i e. n (i, e)) ∙ ap Err (sym m) in
-    record { reads = record { lends = refl; goes = tt; reads = sym (ap (written (token_made c) (state_of a)) read) }; steps = tt }
+    record { reads = record { lends = refl; goes = tt; reads = sym (ap (written (token_made c) (state_of a)) read) }; keeps = (refl, refl); steps = tt }
 shut_misfit (suc d) c a h m n = absurd (omega arith)
 
 -- ---- two tokens ahead

@@ -40,10 +40,15 @@ state_of r = record { stream = stream_of r; count = r.count; table = r.table.now
 abbrev pub Lends : Reader → Reader → Type 0
 Lends a b = b.table.ghost_name ≡ a.table.ghost_name
 
--- a reads on to b, and writes no more nodes than it passes bytes
+-- a reads on to b in the same text, and writes no more nodes than it passes bytes
 pub record Goes (a b : Reader) : Type 0 where
+  pub source : b.lexer.source ≡ a.lexer.source
   pub onward : a.place ≤ b.place
   pub paced : b.count + a.place ≤ a.count + b.place
+
+-- nothing is written
+abbrev pub Keeps : Reader → Reader → Type 0
+Keeps a b = (b.table.now ≡ a.table.now) × (b.count ≡ a.count)
 
 -- b differs from a in nothing but what is written
 pub record Stays (a b : Reader) : Type 0 where
@@ -127,9 +132,10 @@ pub record Reads {X : Type 0} (act : Makes X) (R : Read X) (a : Reader) (r : Ans
   pub goes : IfOk r (λ _. Goes a b)
   pub reads : outcome r (state_of b) ≡ written act (state_of a) R
 
--- one that reads a token and writes nothing
+-- one that reads a token and writes nothing, whether it takes the token or refuses it
 pub record Takes {X : Type 0} (act : Makes X) (R : Read X) (a : Reader) (r : Answer) (b : Reader) : Type 0 where
   pub reads : Reads act R a r b
+  pub keeps : Keeps a b
   pub steps : IfOk r (λ _. (b.count ≡ a.count) × (a.place < b.place))
 
 -- one whose answer is the last node that it writes

@@ -2,7 +2,6 @@
 ghost use Rattle.std.specs.Prelude.{◌≡◌, ℕ, ◌≤◌, pos};
 ghost use Rattle.grammar.specs.Grammars.{seq, tok};
 ghost use Rattle.grammar.specs.Parsers.{parse_at};
-ghost use Rattle.grammar.specs.TokenClasses.{class_number};
 ghost use Rattle.syntax.specs.Nodes.{minus, number_made, inner_made};
 ghost use Rattle.syntax.specs.Syntax.{rule, number};
 ghost use Rattle.reading.specs.States.{stream_of, Builds, shown, of_node};
@@ -10,7 +9,7 @@ ghost use Rattle.reading.specs.Steps.{taken, jointly, blamed, variable_made, bar
 
 use crate::nodes::valued;
 use crate::readers::{Numbered, Reader};
-use grammar::classing::TokenClass;
+use grammar::classing::{Asked, TokenClass};
 use grammar::faults::GrammarFault;
 use table::kinds::Kind;
 use table::nodes::Node;
@@ -49,20 +48,20 @@ impl Reader<'_, '_> {
     }
 
     /// A token, read as a node.
-    pub fn bare(&mut self, class: TokenClass, kind: Kind) -> Result<Numbered, Placed<GrammarFault>>
-        ensures { Builds (bare_made (class_number class) kind) (taken (class_number class) (stream_of self.old)) self.old (shown of_node result) self.new }
+    pub fn bare<C: Asked>(&mut self, class: C, kind: Kind) -> Result<Numbered, Placed<GrammarFault>>
+        ensures { Builds (bare_made (C.asked class) kind) (taken (C.asked class) (stream_of self.old)) self.old (shown of_node result) self.new }
     {
         let place = self.take(class)?;
         Ok(self.record(Node::bare(kind, place)))
     }
 
     /// A token and a variable: a node over the variable, at the token.
-    pub fn of_variable(
+    pub fn of_variable<C: Asked>(
         &mut self,
-        class: TokenClass,
+        class: C,
         kind: Kind,
     ) -> Result<Numbered, Placed<GrammarFault>>
-        ensures { (d : ℕ) → Builds (of_variable_made d (class_number class) kind) (parse_at rule d (seq (tok (class_number class)) (tok 51)) (stream_of self.old)) self.old (shown of_node result) self.new }
+        ensures { (d : ℕ) → Builds (of_variable_made d (C.asked class) kind) (parse_at rule d (seq (tok (C.asked class)) (tok 51)) (stream_of self.old)) self.old (shown of_node result) self.new }
     {
         let place = self.take(class)?;
         let variable = self.variable()?;

@@ -5,11 +5,11 @@ ghost use Rattle.grammar.specs.Parsers.{two};
 ghost use Rattle.grammar.specs.TokenClasses.{class_number};
 ghost use Rattle.text.specs.Steps.{at};
 ghost use Rattle.text.specs.Tokens.{is_end, lexeme};
-ghost use Rattle.reading.specs.States.{stream_of, IsAhead, Lends, Written, linked_at, Recorded, Chained, Takes, shown, of_place, of_name, of_mark, of_node};
+ghost use Rattle.reading.specs.States.{stream_of, IsAhead, Lends, Keeps, Written, linked_at, Recorded, Chained, Takes, shown, of_place, of_name, of_mark, of_node};
 ghost use Rattle.reading.specs.Steps.{advanced, tail_of, front_of, misfit_of, taken, opened, any_taken, token_made, name_made, mark_made};
 
 use crate::readers::{Mark, Name, Numbered, Reader};
-use grammar::classing::{TokenClass, token_class};
+use grammar::classing::{Asked, TokenClass, token_class};
 use grammar::faults::GrammarFault;
 use table::nodes::Node;
 use text::places::Placed;
@@ -27,7 +27,8 @@ impl Reader<'_, '_> {
     pub(crate) fn advance(&mut self) -> Result<(), Placed<GrammarFault>>
         requires { is_end (lexeme self.old.token) ≡ false }
         ensures lends { Lends self.old self.new }
-        ensures written { (self.new.table.now ≡ self.old.table.now) × (self.new.count ≡ self.old.count) }
+        ensures source { self.new.lexer.source ≡ self.old.lexer.source }
+        ensures written { Keeps self.old self.new }
         ensures onward { OnOk result (self.old.place < self.new.place) }
         ensures stream { advanced result (stream_of self.new) ≡ tail_of (stream_of self.old) }
     {
@@ -48,21 +49,21 @@ impl Reader<'_, '_> {
     }
 
     /// Whether the token ahead is of a class. The end is of none.
-    fn is_ahead(&self, class: TokenClass) -> bool
-        ensures { Decides result (IsAhead (class_number class) self.now) }
+    fn is_ahead<C: Asked>(&self, class: C) -> bool
+        ensures { Decides result (IsAhead (C.asked class) self.now) }
     {
-        !is_end(self.token) && self.class() == class
+        !is_end(self.token) && class.is(self.class())
     }
 
     /// Whether the tokens ahead are of two classes.
-    pub fn followed(&self, first: TokenClass, second: TokenClass) -> bool
-        ensures { result ≡ two (class_number first) (class_number second) (stream_of self.now).tokens }
+    pub fn followed<C: Asked, D: Asked>(&self, first: C, second: D) -> bool
+        ensures { result ≡ two (C.asked first) (D.asked second) (stream_of self.now).tokens }
     {
         if !self.is_ahead(first) {
             return false;
         }
         let mut lexer = self.lexer;
-        lexer.next_token().is_ok_and(|next| !is_end(next.item) && token_class(next.item) == second)
+        lexer.next_token().is_ok_and(|next| !is_end(next.item) && second.is(token_class(next.item)))
     }
 
     /// A refusal at the token ahead.
@@ -88,8 +89,8 @@ impl Reader<'_, '_> {
     }
 
     /// Takes a token of a class, and tells its place. The end is not taken.
-    pub fn take(&mut self, class: TokenClass) -> Result<u16, Placed<GrammarFault>>
-        ensures { Takes (token_made (class_number class)) (taken (class_number class) (stream_of self.old)) self.old (shown of_place result) self.new }
+    pub fn take<C: Asked>(&mut self, class: C) -> Result<u16, Placed<GrammarFault>>
+        ensures { Takes (token_made (C.asked class)) (taken (C.asked class) (stream_of self.old)) self.old (shown of_place result) self.new }
     {
         if !self.is_ahead(class) {
             return Err(self.misfit());
@@ -100,17 +101,17 @@ impl Reader<'_, '_> {
     }
 
     /// Takes a token that opens a construct, if any more may be open.
-    pub fn open(&mut self, class: TokenClass, allowed: u8) -> Result<u16, Placed<GrammarFault>>
-        ensures takes { Takes (token_made (class_number class)) (opened allowed (class_number class) (stream_of self.old)) self.old (shown of_place result) self.new }
+    pub fn open<C: Asked>(&mut self, class: C, allowed: u8) -> Result<u16, Placed<GrammarFault>>
+        ensures takes { Takes (token_made (C.asked class)) (opened allowed (C.asked class) (stream_of self.old)) self.old (shown of_place result) self.new }
         ensures allows { OnOk result (0 < allowed) }
     {
         if allowed > 0 {
             return self.take(class);
         }
-        if !self.is_ahead(class) {
-            return Err(self.misfit());
+        if self.is_ahead(class) {
+            return Err(self.refusal(GrammarFault::TooDeep));
         }
-        Err(self.refusal(GrammarFault::TooDeep))
+        Err(self.misfit())
     }
 
     /// Takes a name.
@@ -126,11 +127,12 @@ impl Reader<'_, '_> {
     }
 
     /// Takes a token of one of several classes.
-    pub fn one_of(&mut self, classes: &[TokenClass]) -> Result<Mark, Placed<GrammarFault>>
-        ensures { Takes mark_made (any_taken (map class_number classes.now) (stream_of self.old)) self.old (shown of_mark result) self.new }
+    pub fn one_of<C: Asked>(&mut self, classes: &[C]) -> Result<Mark, Placed<GrammarFault>>
+        ensures { Takes mark_made (any_taken (map C.asked classes.now) (stream_of self.old)) self.old (shown of_mark result) self.new }
     {
         let class = self.class();
-        if !classes.contains(&class) {
+        let listed = C::among(classes, class);
+        if !listed {
             return Err(self.misfit());
         }
         let place = self.take(class)?;
