@@ -10,6 +10,7 @@ mod listing;
 
 use files::{Case, CaseFile};
 use listing::listed;
+use std::alloc::AllocError;
 use std::io::Read;
 
 /// What came of the cases so far.
@@ -23,7 +24,8 @@ struct Tally {
 fn agrees(rt: &HostRuntime, case: Case<'_>) -> anyhow::Result<bool>
     ensures { IfOk result (λ b. IsTrue b ↔ listing (lexed case.entry.script.now) ≡ case.entry.tokens.now) }
 {
-    let found = listed(rt.alloc(), case.script)?;
+    // A listing is written into memory, so it fails only where memory runs out.
+    let found = listed(rt.alloc(), case.script).map_err(|_| AllocError)?;
     Ok(found.as_slice() == case.tokens)
 }
 
