@@ -80,7 +80,10 @@ fn magnitude(digits: &[u8], most: u32) -> Option<u32>
         if !b.is_ascii_digit() {
             return None;
         }
-        value = value.checked_mul(10)?.checked_add(u32::from(*b - b'0'))?;
+        if value > most / 10 {
+            return None;
+        }
+        value = (value * 10).checked_add(u32::from(*b - b'0'))?;
     }
     Some(value).filter(|n| *n <= most)
 }

@@ -44,8 +44,10 @@ fn magnitude(digits: &[u8]) -> Option<u32>
 {
     let mut value: u32 = 0;
     for b in digits {
-        let digit = u32::from(b.saturating_sub(b'0'));
-        value = value.checked_mul(10)?.checked_add(digit)?;
+        if value > LARGEST / 10 {
+            return None;
+        }
+        value = value * 10 + u32::from(b.saturating_sub(b'0'));
     }
     Some(value).filter(|n| *n <= LARGEST)
 }

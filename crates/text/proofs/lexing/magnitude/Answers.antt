@@ -1,21 +1,11 @@
-use Rattle.std.proofs.Common.{◌≡◌, ◌+◌, ◌*◌, ◌≤◌, drop, None, ◌∙◌, arith, rules}
+use Rattle.std.proofs.Common.{◌+◌, ◌-◌, ◌*◌, get_or, drop, refl, ◌∙◌, arith}
 use Rattle.text.proofs.Numbers.{value_more, magnitude_large}
 use Rattle.text.proofs.lexing.magnitude.Goals as goal
 
-pub returns-in_err-checked_mul : goal.returns-in_err-checked_mul
-returns-in_err-checked_mul c =
-    let none : c.from_residual.result ≡ None = search rules in
-    let big : 4294967296 ≤ c.loop-b.value * 10 = search rules in
-    none
-    ∙ magnitude_large (c.loop-b.value * 10 + c.from-digit.result) c.args.digits.now (drop (c.loop-b.b-index + 1) c.args.digits.now)
-    (value_more c.loop-b.value c.from-digit.result c.args.digits.now c.loop-b.b-index c.loop-b-test.true (c.from-digit.ensures ∙ c.saturating_sub.ensures) ∙ c.loop-b.invariant)
-    (omega arith)
-
-pub returns-in_err-value : goal.returns-in_err-value
-returns-in_err-value c =
-    let none : c.from_residual-in_err-value.result ≡ None = search rules in
-    let big : 4294967296 ≤ c.loop-b.value * 10 + c.from-digit.result = search rules in
-    none
-    ∙ magnitude_large (c.loop-b.value * 10 + c.from-digit.result) c.args.digits.now (drop (c.loop-b.b-index + 1) c.args.digits.now)
-    (value_more c.loop-b.value c.from-digit.result c.args.digits.now c.loop-b.b-index c.loop-b-test.true (c.from-digit.ensures ∙ c.saturating_sub.ensures) ∙ c.loop-b.invariant)
+pub returns-then-value : goal.returns-then-value
+returns-then-value c =
+    let ds = c.args.digits.now in
+    let i = c.loop-b.b-index in
+    magnitude_large (c.loop-b.value * 10 + (get_or ds i 0 - 48)) ds (drop (i + 1) ds)
+    (value_more c.loop-b.value (get_or ds i 0 - 48) ds i c.loop-b-test.true refl ∙ c.loop-b.invariant)
     (omega arith)
