@@ -1,21 +1,44 @@
--- What is read and written makes up one answer; items that are still to be read, after the nodes so far.
+-- What is read and written makes up one answer, and what an answer comes to; items that are still to be read, after the nodes so far.
 use Rattle.std.proofs.Common.{◌≡◌, ℕ, ◌+◌, ◌≤◌, List, ◌∷◌, Ok, Err, refl, sym, ap, ◌∙◌, arith}
 use Rattle.table.specs.declared.nodes.Node.{Node}
 use Rattle.grammar.specs.Parsers.{Read, bind}
 use Rattle.grammar.specs.Streams.{Stream, Refusal}
+use Rattle.grammar.proofs.Inversions.{same_ok, never_ok}
 use Rattle.grammar.proofs.Unrolling.{then_more}
 use Rattle.syntax.specs.Nodes.{Made, Makes, with, folded}
 use Rattle.reading.specs.declared.readers.Reader.{Reader}
 use Rattle.reading.specs.States.{State, Done, stream_of, state_of, Goes, Lends, Recorded, applied, done, written, Reads}
 use Rattle.reading.proofs.Sequences.{Whole, node}
 
+-- a tree is read, and this is what it comes to, whatever the states
+pub record Got {X : Type 0} (act : Makes X) (R : Read X) (st : State) (n p : ℕ) (after : State) : Type 0 where
+  pub tree : X
+  pub rest : Stream
+  pub read : R ≡ Ok (tree, rest)
+  pub number : n ≡ (act tree st.count).number
+  pub place : p ≡ (act tree st.count).place
+  pub state : after ≡ applied (act tree st.count).nodes rest st
+
+pub got : {X : Type 0} (act : Makes X) (R : Read X) (st : State) (n p : ℕ) (after : State) → Ok (n, p, after) ≡ written act st R → Got act R st n p after
+got act (Ok q) st n p after e =
+    let z = same_ok (n, p, after) _ e in
+    record { tree = q.0; rest = q.1; read = refl; number = ap (λ x. x.0) z; place = ap (λ x. x.1) z; state = ap (λ x. x.2) z }
+got act (Err f) st n p after e = absurd (never_ok _ f (sym e))
+
+pub refused : {X : Type 0} (act : Makes X) (R : Read X) (st : State) (f : Refusal) → Err f ≡ written act st R → R ≡ Err f
+refused act (Ok q) st f e = absurd (never_ok _ f e)
+refused act (Err g) st f e = let q : ◌≡◌ {A = Refusal} g f = cc in ap Err q
+
 -- what was read has nodes, and one more is written over them
-pub with_node : {X : Type 0} (act : Makes X) (R : Read X) (x : X) (a b d : Reader) (ms : List Node) (raw top : Node) (r : ℕ × ℕ) → R ≡ Ok (x, stream_of b)
-    → state_of b ≡ applied ms (stream_of b) (state_of a) → Lends a b → Goes a b → b.count + 1 + a.place ≤ a.count + b.place
+pub with_node : {X : Type 0} (act : Makes X) (R : Read X) (x : X) (s : Stream) (a b d : Reader) (ms : List Node) (raw top : Node) (r : ℕ × ℕ) → R ≡ Ok (x, s)
+    → state_of b ≡ applied ms s (state_of a) → Lends a b → Goes a b → b.count + 1 + a.place ≤ a.count + b.place
     → Recorded b d raw r → raw ≡ top → act x a.count ≡ with ms top a.count
     → Reads act R a (Ok r) d
-with_node act R x a b d ms raw top r e f l g h m is k =
-    let whole : Whole R a b x ms 1 = record { part = record { left = e; lends = l; source = g.source; onward = g.onward; state = f; paced = omega arith } } in
+unfolding state_of
+with_node act R x s a b d ms raw top r e f l g h m is k =
+    let here : s ≡ stream_of b = sym (ap (λ (z : State). z.stream) f) in
+    let whole : Whole R a b x ms 1 =
+    record { part = record { left = e ∙ ap (λ z. Ok (x, z)) here; lends = l; source = g.source; onward = g.onward; state = f ∙ ap (λ z. applied ms z (state_of a)) here; paced = omega arith } } in
     let built = node {out = act} whole m is (sym k) in
     built.reads
 
