@@ -47,6 +47,7 @@ pub fn screen(script: &[u8]) -> Result<usize, Placed<Refusal>>
 }
 
 /// The line of account of a script, as the bench prints it.
+#[tactic(auto, using(crate::proofs::Lines::one_line))]
 pub fn report(heap: Global, script: &[u8]) -> Result<String, AllocError>
     ensures { IfOk result (λ s. string_bytes s ≡ line (screened script.now)) }
 {

@@ -113,8 +113,3 @@ among_classes (x ∷ cs) c = rw (same_number x c, turned (class_number x) (class
 -- the same, of the class with a number
 pub class_among : (cs : List TokenClass) (c : TokenClass) {n : ℕ} {r b : Bool} → class_number c ≡ n → r ≡ list_any (λ x. ghosts.eq x c) cs → r ≡ b → among (map class_number cs) n ≡ b
 class_among cs c is told found = ap (among (map class_number cs)) (sym is) ∙ sym (among_classes cs c) ∙ sym told ∙ found
-
--- `contains` of the code on numbers
-pub among_numbers : (ns : List ℕ) (n : ℕ) → list_any (λ x. eqb x n) ns ≡ among (map (λ k. k) ns) n
-among_numbers [] n = refl
-among_numbers (x ∷ ns) n = rw (turned x n, among_numbers ns n)

@@ -1,6 +1,6 @@
 //! Classes of tokens.
-ghost use Rattle.std.specs.Prelude.{◌≡◌, ℕ, ◌==◌, map};
-ghost use Rattle.grammar.specs.TokenClasses.{keyword_class, sign_class, class_number, class_of, among};
+ghost use Rattle.std.specs.Prelude.{◌≡◌, ℕ, ◌==◌};
+ghost use Rattle.grammar.specs.TokenClasses.{keyword_class, sign_class, class_number, class_of};
 ghost use Rattle.text.specs.Tokens.{lexeme};
 
 use text::spellings::{Keyword, Sign};
@@ -53,10 +53,6 @@ pub trait Asked: Copy {
     {
         class.number() == self.number()
     }
-
-    /// Whether one of several asks for a class.
-    fn among(several: &[Self], class: TokenClass) -> bool
-        ensures { result ≡ among (map asked several.now) (class_number class) };
 }
 
 // Classes are compared without their numbers.
@@ -70,10 +66,6 @@ impl Asked for TokenClass {
     fn is(self, class: TokenClass) -> bool {
         class == self
     }
-
-    fn among(several: &[TokenClass], class: TokenClass) -> bool {
-        several.contains(&class)
-    }
 }
 
 impl Asked for u8 {
@@ -81,10 +73,6 @@ impl Asked for u8 {
 
     fn number(self) -> u8 {
         self
-    }
-
-    fn among(several: &[u8], class: TokenClass) -> bool {
-        several.contains(&class.number())
     }
 }
 

@@ -1,5 +1,6 @@
 -- A token of one of several classes.
-use Rattle.std.proofs.Common.{◌≡◌, ℕ, Bool, true, false, cond, ◌||◌, eqb, List, [], ◌∷◌, Ok, Err, Result, sym, refl, ap, ◌∙◌, inl, inr}
+use Rattle.std.proofs.Common.{◌≡◌, ℕ, Bool, true, false, cond, ◌||◌, eqb, List, [], ◌∷◌, map, Ok, Err, Result, sym, refl, ap, ◌∙◌, inl, inr}
+use Rattle.std.specs.List.{list_any}
 use Rattle.std.proofs.lemmas.Bool.{both_ways, eq-eqb, eqb-true}
 use Rattle.table.specs.declared.nodes.Node.{Node}
 use Rattle.text.specs.declared.places.Placed.{Placed}
@@ -126,6 +127,11 @@ pub stop_mark : {Y : Type 0} {out : Makes Y} {R : Read Y} {a m b : Reader} {d : 
 stop_mark {d = d} c cs s r = stop s (take_mark d c cs r).reads
 
 -- ---- a token of one of several, as the code takes it
+
+-- whether any of several asks for a class
+pub among_any : {X : Type 0} (asked : X → ℕ) (n : ℕ) (xs : List X) → list_any (λ x. eqb n (asked x)) xs ≡ among (map asked xs) n
+among_any asked n [] = refl
+among_any asked n (x ∷ xs) = ap (λ b. eqb n (asked x) || b) (among_any asked n xs)
 
 -- none of them stands there
 pub not_any : (cs : List ℕ) (a : Reader) {f : Refusal} → f ≡ misfit_of (stream_of a) → among cs (front_of (stream_of a)) ≡ false → Takes mark_made (any_taken cs (stream_of a)) a (Err f) a

@@ -2,7 +2,7 @@
 ghost use Rattle.std.specs.Bool.{Decides};
 ghost use Rattle.std.specs.Prelude.{◌≡◌, ◌<◌, false, OnOk, map, slice_set};
 ghost use Rattle.grammar.specs.Parsers.{two};
-ghost use Rattle.grammar.specs.TokenClasses.{class_number};
+ghost use Rattle.grammar.specs.TokenClasses.{class_number, among};
 ghost use Rattle.text.specs.Steps.{at};
 ghost use Rattle.text.specs.Tokens.{is_end, lexeme};
 ghost use Rattle.reading.specs.States.{stream_of, IsAhead, Lends, Keeps, Written, linked_at, Recorded, Chained, Takes, shown, of_place, of_name, of_mark, of_node};
@@ -20,6 +20,13 @@ fn is_end(token: Token<&[u8]>) -> bool
     ensures { result ≡ is_end (lexeme token.entry) }
 {
     matches!(token, Token::End)
+}
+
+/// Whether one of several asks for a class.
+fn among<C: Asked>(classes: &[C], class: TokenClass) -> bool
+    ensures { result ≡ among (map C.asked classes.now) (class_number class) }
+{
+    classes.iter().any(|c| c.is(class))
 }
 
 impl Reader<'_, '_> {
@@ -131,8 +138,7 @@ impl Reader<'_, '_> {
         ensures { Takes mark_made (any_taken (map C.asked classes.now) (stream_of self.old)) self.old (shown of_mark result) self.new }
     {
         let class = self.class();
-        let listed = C::among(classes, class);
-        if !listed {
+        if !among(classes, class) {
             return Err(self.misfit());
         }
         let place = self.take(class)?;
